@@ -1,0 +1,4 @@
+pub mod Test
+pub mod Saturating
+pub mod Range
+pub mod Tabulate
