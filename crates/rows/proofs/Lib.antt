@@ -1,0 +1,4 @@
+mod Loops
+pub mod Laws
+mod Examples
+mod Unmapped
