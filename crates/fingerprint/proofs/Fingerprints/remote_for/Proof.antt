@@ -1,0 +1,12 @@
+-- `fingerprint::Fingerprints::remote_for` meets its contract. Assumes nothing.
+use borrow.Author.Needs.{needs}
+use Rattle.fingerprint.specs.Cells.{remoteFor}
+use Rattle.fingerprint.proofs.Fingerprints.remote_for.Statement.{statement}
+use Rattle.fingerprint.proofs.Fingerprints.remote_for.Tie as tie
+
+returns : tie.Need-returns
+unfolding remoteFor
+returns c = cc
+
+pub remote-for-spec : {M : Type 1} → statement M
+remote-for-spec = tie.close (tie.spec (search needs) (search needs) returns)
