@@ -1,0 +1,4 @@
+pub mod Session
+pub mod Numbers
+pub mod Host
+pub mod Step
