@@ -1,13 +1,12 @@
--- Document 01, what the host calls: open, `wants_local`, submit and leave. 20 comes first on every call but `wants_local`, and then, in submit, a
--- standing outcome.
+-- Document 01, what the host calls: open, submit and leave. 20 comes first, and then, in submit, a standing outcome.
 -- Assumes nothing.
 use Prim.Native.Nat.{ℕ, _-_}
-use mathlib.Core.Bool.{Bool, true, false, not, _&&_}
+use mathlib.Core.Bool.{not}
 use mathlib.Core.List.{List}
-use lib.Dec.{eqb, ltb, leb}
+use lib.Dec.{eqb, leb}
 use lib.ListN.{length}
 use Rattle.logic.specs.Test.{if_then_else_}
-use Rattle.logic.specs.Saturating.{sum, raised}
+use Rattle.logic.specs.Saturating.{raised}
 use Rattle.peer.specs.Cells.{window}
 use Rattle.params.specs.Params.{validity, badState}
 use Rattle.params.specs.declared.SessionParams.{SessionParams}
@@ -23,19 +22,11 @@ use Rattle.session.specs.declared.Submit.the-variants as Submit′
 use Rattle.session.specs.declared.Submitted.{Submitted}
 use Rattle.session.specs.declared.Leave.the-variants as Leave′
 use Rattle.session.specs.declared.Left.{Left}
-use Rattle.session.specs.Session.{fresh, withPress, withOutcome, withEmit, isOver, started, lastCommitted}
+use Rattle.session.specs.Session.{fresh, withPress, withOutcome, withEmit, started, lastCommitted}
 
 -- a refused open hands back the fresh record over the given parameters, on which every call answers 20
 unfoldable pub opened : SessionParams → Opened
 opened p = record { session = fresh p; answer = validity p }
-
--- no after an outcome or for a bad record; else yes exactly when next local tick is at most pending plus delay and less than 64 above pending
--- (sums and differences saturate)
-unfoldable pub wantsLocal : Session → Bool
-wantsLocal s =
-    if isOver (s .outcome) then false
-    else if badState (s .params) then false
-    else leb (s .next) (sum (s .pending) (s .params .delay)) && ltb (s .next - s .pending) window
 
 -- ---- submit
 

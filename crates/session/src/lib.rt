@@ -3,8 +3,8 @@
 ghost use mathlib.Core.Path.{_≡_};
 ghost use mathlib.Core.Bool.{false};
 ghost use Rattle.params.specs.Params.{badState};
-ghost use Rattle.session.specs.Session.{fresh, isOver, isPlaying, everySeatHeld, ended, started};
-ghost use Rattle.session.specs.Host.{opened, wantsLocal, submit, leave};
+ghost use Rattle.session.specs.Session.{everySeatHeld, ended, started};
+ghost use Rattle.session.specs.Host.{opened, submit, leave};
 ghost use Rattle.session.specs.Step.{beside, idle, takeStep, stall, drain, playOn, advance, judge, mismatch, keepDigest, commit};
 ghost use Rattle.session.specs.Numbers.{submitNo, leaveNo, commitNo};
 use fingerprint::Cell;
@@ -141,16 +141,6 @@ pub struct Left {
     pub answer: Leave,
 }
 
-// Whether a session is over.
-fn is_over(standing: Standing) -> bool
-    ensures { λ r. ⌜ r ≡ isOver standing ⌝ }
-{
-    match standing {
-        Standing::Open => false,
-        Standing::Over(_) => true,
-    }
-}
-
 impl Submit {
     // Document 01's number.
     pub fn number(self) -> u8
@@ -284,23 +274,6 @@ impl Session {
         }
         self.playing = true;
         self
-    }
-
-    // Whether the host owes a press now.
-    pub fn wants_local(self) -> bool
-        ensures { λ r. ⌜ r ≡ wantsLocal self ⌝ }
-    {
-        let was = self.outcome;
-        if is_over(was) {
-            return false;
-        }
-        if self.params.bad_state() {
-            return false;
-        }
-        if self.next > logic::saturating_add(self.pending, self.params.delay as u64) {
-            return false;
-        }
-        logic::saturating_sub(self.next, self.pending) < peer::WINDOW
     }
 
     // This player's press for the next local tick.
@@ -575,53 +548,5 @@ impl Session {
             session: next.keep_digest(tick, digest),
             answer: Commit::Done,
         }
-    }
-
-    // ---- what a session shows
-
-    pub fn params(self) -> SessionParams
-        ensures { λ r. ⌜ r ≡ self .params ⌝ }
-    {
-        return self.params;
-    }
-
-    pub fn stats(self) -> SessionStats
-        ensures { λ r. ⌜ r ≡ self .stats ⌝ }
-    {
-        return self.stats;
-    }
-
-    pub fn pending_tick(self) -> u64
-        ensures { λ r. ⌜ r ≡ self .pending ⌝ }
-    {
-        return self.pending;
-    }
-
-    pub fn next_local_tick(self) -> u64
-        ensures { λ r. ⌜ r ≡ self .next ⌝ }
-    {
-        return self.next;
-    }
-
-    pub fn is_playing(self) -> bool
-        ensures { λ r. ⌜ r ≡ isPlaying self ⌝ }
-    {
-        let standing = self.outcome;
-        if is_over(standing) {
-            return false;
-        }
-        self.playing
-    }
-
-    pub fn outcome(self) -> Standing
-        ensures { λ r. ⌜ r ≡ self .outcome ⌝ }
-    {
-        return self.outcome;
-    }
-
-    pub fn input_digest(self) -> u64
-        ensures { λ r. ⌜ r ≡ self .digest ⌝ }
-    {
-        return self.digest;
     }
 }

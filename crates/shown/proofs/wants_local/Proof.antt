@@ -1,19 +1,19 @@
--- `session::Session::wants_local` meets its contract. Assumes nothing.
+-- `shown::wants_local` meets its contract. Assumes nothing.
 use mathlib.Core.Path.{_≡_, sym, _∙_}
 use mathlib.Core.Bool.{false}
 use borrow.Author.Needs.{needs}
 use borrow.Author.Tests.{le-leb, lt-leb}
 use Rattle.logic.specs.Test.{if_then_else_}
 use Rattle.params.specs.Params.{badState}
 use Rattle.session.specs.Session.{isOver}
-use Rattle.session.specs.Host.{wantsLocal}
-use Rattle.session.proofs.Session.wants_local.Statement.{statement}
-use Rattle.session.proofs.Session.wants_local.Tie as tie
+use Rattle.shown.specs.Wants.{wantsLocal}
+use Rattle.shown.proofs.wants_local.Statement.{statement}
+use Rattle.shown.proofs.wants_local.Tie as tie
 
-going : (c : tie.Else1) → isOver (c .before .before .args .self .outcome) ≡ false
+going : (c : tie.Else1) → isOver (c .before .before .args .s .outcome) ≡ false
 going c = sym (c .before .is-over .ensures) ∙ c .if1 .left
 
-good : (c : tie.Else2) → badState (c .before .before .before .before .args .self .params) ≡ false
+good : (c : tie.Else2) → badState (c .before .before .before .before .args .s .params) ≡ false
 good c = sym (c .before .bad-state .ensures) ∙ c .if2 .left
 
 returns : tie.Need-returns

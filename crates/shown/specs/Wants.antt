@@ -1,0 +1,19 @@
+-- Document 01, "The window": `wants_local`.
+-- Assumes nothing.
+use Prim.Native.Nat.{_-_}
+use mathlib.Core.Bool.{Bool, false, _&&_}
+use lib.Dec.{ltb, leb}
+use Rattle.logic.specs.Test.{if_then_else_}
+use Rattle.logic.specs.Saturating.{sum}
+use Rattle.peer.specs.Cells.{window}
+use Rattle.params.specs.Params.{badState}
+use Rattle.session.specs.Session.{isOver}
+use Rattle.session.specs.declared.Session.{Session}
+
+-- no after an outcome or for a bad record; else yes exactly when next local tick is at most pending plus delay and less than 64 above pending
+-- (sums and differences saturate)
+unfoldable pub wantsLocal : Session → Bool
+wantsLocal s =
+    if isOver (s .outcome) then false
+    else if badState (s .params) then false
+    else leb (s .next) (sum (s .pending) (s .params .delay)) && ltb (s .next - s .pending) window
