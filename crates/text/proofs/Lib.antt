@@ -1,0 +1,6 @@
+mod Loops
+pub mod Writing
+pub mod Decimals
+pub mod Hexes
+pub mod Copying
+mod Examples

@@ -1,0 +1,4 @@
+pub mod Ascii
+pub mod Text
+pub mod Decimal
+pub mod Hex
