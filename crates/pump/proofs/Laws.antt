@@ -1,0 +1,532 @@
+-- What later layers use of the pump: what it can do, that it moves nothing but its own kind and place, that at most 21 messages precede 71, and
+-- that an Inputs carries the newest local frames that are still held, each in its place of the run.
+-- Assumes nothing.
+use Prim.Native.Nat.{ℕ, zero, suc, _+_, _-_, _*_, _/_, _%_, _<_, _≤_, min}
+use mathlib.Core.Path.{_≡_, refl, sym, ap, _∙_}
+use mathlib.Core.Bool.{Bool, true, false, not, _&&_, and-false, true≢false}
+use mathlib.Core.List.{List}
+use native.Mathlib.Omega.{arith}
+use native.Mathlib.Nat.{mul-le-mul, suc-mul}
+use lib.Arith.{digits-div, digits-mod, digits-lt}
+use lib.Dec.{eqb, ltb}
+use lib.ListN.{length, getD, take, drop, length-take, length-drop}
+use lib.Seq.{getD-take, getD-drop, ext-getD}
+use borrow.Author.Tests.{eqb-true, eqb-false, lt-ltb, le-ltb, eq-eqb}
+use Rattle.logic.specs.Test.{if_then_else_}
+use Rattle.logic.proofs.Cases.{byTest, decide, caseEq, caseLt, if-true, if-false}
+use Rattle.logic.proofs.Tabulated.{length-tabulate, getD-tabulate}
+use Rattle.peer.specs.Seats.{seats, bit, has}
+use Rattle.params.specs.Params.{maxWidth, badState, remotesOf}
+use Rattle.params.specs.declared.SessionParams.{SessionParams}
+use Rattle.params.proofs.Laws.{Sound, sound, has-remotes}
+use Rattle.wire.specs.Wire.{redundancy}
+use Rattle.wire.specs.declared.Body.{Body}
+use Rattle.wire.specs.declared.Body.the-variants as Body′
+use Rattle.wire.specs.declared.InputsBody.{InputsBody}
+use Rattle.wire.specs.declared.Message.{Message}
+use Rattle.window.specs.Window.{isHeld, frameOf}
+use Rattle.window.specs.Absorb.{frameAt}
+use Rattle.window.specs.declared.Window.{Window}
+use Rattle.window.proofs.Laws.{Sized, frame-length}
+use Rattle.fingerprint.specs.declared.Cell.{Cell}
+use Rattle.fingerprint.specs.declared.Cell.the-variants.{Empty, Holds}
+use Rattle.session.specs.Session.{withEmit, isPlaying}
+use Rattle.session.specs.declared.Emit.{Emit}
+use Rattle.session.specs.declared.Emit.the-variants.{Hello, Inputs, Digest, Bye, Done}
+use Rattle.session.specs.declared.Session.{Session}
+use Rattle.pump.specs.declared.Target.{Target}
+use Rattle.pump.specs.declared.Target.the-variants.{Nobody, Seat}
+use Rattle.pump.specs.declared.Saying.{Saying}
+use Rattle.pump.specs.declared.Saying.the-variants.{Silent, Says}
+use Rattle.pump.specs.declared.Say.{Say}
+use Rattle.pump.specs.declared.Say.the-variants.{No, To}
+use Rattle.pump.specs.declared.Outbound.{Outbound}
+use Rattle.pump.specs.declared.Outbound.the-variants.{Send, Nothing, BadState}
+use Rattle.pump.specs.declared.Pumped.{Pumped}
+use Rattle.pump.specs.Numbers.{outboundNo}
+use Rattle.pump.specs.Pump.{nextRemote, targetOf, span, carried, firstTick, runBytes, runByte, runFrom, runOf, helloOf, inputsOf, digestOf, saying, addressed, sayTo, say, isOwed, quiet, passEnds, runBeside, send, sent, pumpDigest, pumpInputs, pumpHello, pumpBye, pumpFrom, pump}
+use Rattle.pump.proofs.Loops.{span-ticks, carried-le, carried-next}
+
+-- ---- the seats that are left
+
+-- how many of n seats from `place` on are in the set
+unfoldable pub remaining : (remotes place n : ℕ) → ℕ
+remaining remotes place zero = 0
+remaining remotes place (suc n) = bit (has remotes place) + remaining remotes (place + 1) n
+
+bit-le : (b : Bool) → bit b ≤ 1
+bit-le true = omega arith
+bit-le false = omega arith
+
+remaining-le : (remotes place n : ℕ) → remaining remotes place n ≤ n
+unfolding remaining
+remaining-le remotes place zero = omega arith
+remaining-le remotes place (suc n) = omega (arith, remaining-le remotes (place + 1) n, bit-le (has remotes place))
+
+-- one that is not in the set leaves one fewer
+remaining-lt : (remotes place n j : ℕ) → has remotes j ≡ false → place ≤ j → j < place + n → remaining remotes place n < n
+unfolding remaining
+remaining-lt remotes place zero j e l h = absurd (omega arith)
+remaining-lt remotes place (suc n) j e l h =
+    caseEq place j
+    (λ q. rw (q, e) (omega (arith, remaining-le remotes (j + 1) n)))
+    (λ q. omega (arith, remaining-lt remotes (place + 1) n j e (omega arith) (omega arith), bit-le (has remotes place)))
+
+-- the seat that a search finds
+record Found (remotes place n k : ℕ) : Type 0 where
+  from : place ≤ k
+  below : k < place + n
+  in-set : has remotes k ≡ true
+  falls : remaining remotes (k + 1) (place + n - (k + 1)) < remaining remotes place n
+
+found : (remotes place n k : ℕ) → nextRemote remotes place n ≡ Seat k → Found remotes place n k
+unfolding nextRemote remaining
+found remotes place zero k e = let z : _≡_ {A = ℕ} 0 1 = cc in absurd (omega arith)
+found remotes place (suc n) k e =
+    decide (has remotes place)
+    (λ t.
+    let q : place ≡ k = cc (sym (if-true (Seat place) (nextRemote remotes (place + 1) n) t) ∙ e) in
+    let m : place + suc n - (place + 1) ≡ n = omega arith in
+    record {
+      from = omega arith;
+      below = omega arith;
+      in-set = rw (← q) t;
+      falls = rw (← q, m, t) (omega arith);
+    })
+    (λ f.
+    let r = found remotes (place + 1) n k (sym (if-false (Seat place) (nextRemote remotes (place + 1) n) f) ∙ e) in
+    let m : place + suc n - (k + 1) ≡ place + 1 + n - (k + 1) = omega arith in
+    record {
+      from = omega (arith, r .from);
+      below = omega (arith, r .below);
+      in-set = r .in-set;
+      falls = rw (f, m) (omega (arith, r .falls));
+    })
+
+-- how many remotes there are from `place` on
+unfoldable pub ahead : SessionParams → ℕ → ℕ
+ahead p place = remaining (remotesOf p) place (seats - place)
+
+local-not : (p : SessionParams) → Sound p → has (remotesOf p) (p .local) ≡ false
+local-not p ok =
+    let l : p .local < seats = omega (arith, ok .count .greatest, ok .local) in
+    has-remotes p (p .local) l ∙ rw (eq-eqb (p .local) (p .local) refl) (and-false (ltb (p .local) (p .count)))
+
+-- at most seven, as the local seat is none
+pub ahead-le : (p : SessionParams) → Sound p → (place : ℕ) → ahead p place ≤ 7
+unfolding ahead
+ahead-le p ok place =
+    let l : p .local < seats = omega (arith, ok .count .greatest, ok .local) in
+    caseLt (p .local) place
+    (λ h. omega (arith, remaining-le (remotesOf p) place (seats - place)))
+    (λ h. omega (arith, remaining-lt (remotesOf p) place (seats - place) (p .local) (local-not p ok) h (omega arith)))
+
+-- ---- what is left of a pass
+
+-- how many messages can go before the pass ends: those of this kind to the seats from `place` on, and of the kinds after it
+unfoldable pub leftAt : SessionParams → Emit → ℕ → ℕ
+leftAt p Hello place = 14 + ahead p place
+leftAt p Inputs place = 7 + ahead p place
+leftAt p Digest place = ahead p place
+leftAt p Bye place = ahead p place
+leftAt p Done place = 0
+
+abbrev pub left : Session → ℕ
+left s = leftAt (s .params) (s .emit) (s .place)
+
+-- at most 21
+pub left-le : (p : SessionParams) → Sound p → (emit : Emit) (place : ℕ) → leftAt p emit place ≤ 21
+unfolding leftAt
+left-le p ok Hello place = omega (arith, ahead-le p ok place)
+left-le p ok Inputs place = omega (arith, ahead-le p ok place)
+left-le p ok Digest place = omega (arith, ahead-le p ok place)
+left-le p ok Bye place = omega (arith, ahead-le p ok place)
+left-le p ok Done place = omega arith
+
+-- ---- a message: to whom, and what it says
+
+pub record Told (s : Session) (emit : Emit) (place k : ℕ) (body : Body) : Type 0 where
+  pub target : targetOf s place ≡ Seat k
+  pub says : saying s emit ≡ Says body
+
+addressed-to : (j k : ℕ) (body : Body) (x : Saying) → addressed j x ≡ To k body → (j ≡ k) × (x ≡ Says body)
+unfolding addressed
+addressed-to j k body Silent e = let z : _≡_ {A = ℕ} 0 1 = cc in absurd (omega arith)
+addressed-to j k body (Says b) e = (cc, cc)
+
+pub told : (s : Session) (emit : Emit) (place k : ℕ) (body : Body) → say s emit place ≡ To k body → Told s emit place k body
+unfolding say sayTo
+told s emit place k body e = from (targetOf s place) refl
+  where
+    from : (t : Target) → targetOf s place ≡ t → Told s emit place k body
+    from Nobody q = let f = sym (ap (sayTo s emit) q) ∙ e in let z : _≡_ {A = ℕ} 0 1 = cc in absurd (omega arith)
+    from (Seat j) q =
+        let both = addressed-to j k body (saying s emit) (sym (ap (sayTo s emit) q) ∙ e) in
+        record { target = q ∙ ap Seat (both .0); says = both .1 }
+
+-- it goes to a remote, and then fewer are left
+pub record Fell (p : SessionParams) (emit : Emit) (place k : ℕ) : Type 0 where
+  pub seat : k < seats
+  pub remote : has (remotesOf p) k ≡ true
+  pub falls : leftAt p emit (min (k + 1) 255) < leftAt p emit place
+
+fewer : (s : Session) (emit : Emit) (place k : ℕ) (body : Body) → saying s emit ≡ Says body → ahead (s .params) (k + 1) < ahead (s .params) place
+    → leftAt (s .params) emit (k + 1) < leftAt (s .params) emit place
+unfolding leftAt saying
+fewer s Hello place k body q f = omega arith
+fewer s Inputs place k body q f = omega arith
+fewer s Digest place k body q f = omega arith
+fewer s Bye place k body q f = omega arith
+fewer s Done place k body q f = let z : _≡_ {A = ℕ} 0 1 = cc in absurd (omega arith)
+
+pub fell : (s : Session) (emit : Emit) (place k : ℕ) (body : Body) → say s emit place ≡ To k body → Fell (s .params) emit place k
+unfolding targetOf ahead
+fell s emit place k body e =
+    let t = told s emit place k body e in
+    let p = s .params in
+    let f = found (remotesOf p) place (seats - place) k (t .target) in
+    let l : k < seats = omega (arith, f .from, f .below) in
+    let n : min (k + 1) 255 ≡ k + 1 = omega arith in
+    let m : place + (seats - place) - (k + 1) ≡ seats - (k + 1) = omega (arith, f .from, f .below) in
+    record { seat = l; remote = f .in-set; falls = rw n (fewer s emit place k body (t .says) (rw m at (f .falls))) }
+
+-- ---- what a pump can do
+
+pub data Pumps (s : Session) : Pumped → Type 0 where
+  refused : badState (s .params) ≡ true → Pumps s (quiet s BadState)
+  ended : badState (s .params) ≡ false → Pumps s (passEnds s)
+  sends : (emit : Emit) (place k : ℕ) (body : Body) → badState (s .params) ≡ false → say s emit place ≡ To k body
+      → leftAt (s .params) emit place ≤ left s → Pumps s (send s emit k body)
+
+bySay : (P : Pumped → Type 0) (s : Session) (emit : Emit) (x : Say) (rest : Pumped)
+    → ((k : ℕ) (body : Body) → x ≡ To k body → P (send s emit k body)) → P rest → P (sent s emit x rest)
+unfolding sent
+bySay P s emit No rest f g = g
+bySay P s emit (To k body) rest f g = f k body refl
+
+module _ (s : Session) (ok : badState (s .params) ≡ false) where
+  most : (place : ℕ) → ahead (s .params) place ≤ 7
+  most place = ahead-le (s .params) (sound (s .params) ok) place
+
+  digest-is : (place : ℕ) → leftAt (s .params) Digest place ≤ left s → Pumps s (pumpDigest s place)
+  unfolding pumpDigest
+  digest-is place h = bySay (Pumps s) s Digest _ _ (λ k body e. sends Digest place k body ok e h) (ended ok)
+
+  after-inputs : (place : ℕ) → leftAt (s .params) Inputs place ≤ left s → leftAt (s .params) Digest 0 ≤ left s
+  unfolding leftAt
+  after-inputs place h = omega (arith, most 0)
+
+  inputs-is : (place : ℕ) → leftAt (s .params) Inputs place ≤ left s → Pumps s (pumpInputs s place)
+  unfolding pumpInputs
+  inputs-is place h =
+      bySay (Pumps s) s Inputs _ _ (λ k body e. sends Inputs place k body ok e h)
+      (byTest (Pumps s) (λ _. digest-is 0 (after-inputs place h)) (λ _. ended ok))
+
+  after-hello : (place : ℕ) → leftAt (s .params) Hello place ≤ left s → leftAt (s .params) Inputs 0 ≤ left s
+  unfolding leftAt
+  after-hello place h = omega (arith, most 0)
+
+  hello-is : (place : ℕ) → leftAt (s .params) Hello place ≤ left s → Pumps s (pumpHello s place)
+  unfolding pumpHello
+  hello-is place h =
+      bySay (Pumps s) s Hello _ _ (λ k body e. sends Hello place k body ok e h)
+      (byTest (Pumps s) (λ _. inputs-is 0 (after-hello place h)) (λ _. ended ok))
+
+  bye-is : (place : ℕ) → leftAt (s .params) Bye place ≤ left s → Pumps s (pumpBye s place)
+  unfolding pumpBye
+  bye-is place h = bySay (Pumps s) s Bye _ _ (λ k body e. sends Bye place k body ok e h) (ended ok)
+
+  from-is : (emit : Emit) → leftAt (s .params) emit (s .place) ≤ left s → Pumps s (pumpFrom s emit)
+  unfolding pumpFrom
+  from-is Hello h = hello-is (s .place) h
+  from-is Inputs h = inputs-is (s .place) h
+  from-is Digest h = digest-is (s .place) h
+  from-is Bye h = bye-is (s .place) h
+  from-is Done h = ended ok
+
+pub pump-is : (s : Session) → Pumps s (pump s)
+unfolding pump
+pump-is s = byTest (Pumps s) (λ bad. refused bad) (λ ok. from-is s ok (s .emit) (omega arith))
+
+-- ---- what it changes
+
+-- nothing but the pump's kind and place
+pub pump-moves : (s : Session) → pump s .session ≡ withEmit s (pump s .session .emit) (pump s .session .place)
+unfolding quiet passEnds send
+pump-moves s = from (pump-is s)
+  where
+    from : {p : Pumped} → Pumps s p → p .session ≡ withEmit s (p .session .emit) (p .session .place)
+    from (refused bad) = refl
+    from (ended ok) = refl
+    from (sends emit place k body ok e h) = refl
+
+-- and nothing of a record whose parameters fail
+pub pump-bad : (s : Session) → badState (s .params) ≡ true → pump s .session ≡ s
+unfolding pump quiet
+pump-bad s bad = ap (λ (p : Pumped). p .session) (if-true _ _ bad)
+
+-- ---- at most 21 messages precede 71
+
+pub left-falls : (s : Session) → outboundNo (pump s .answer) ≡ 0 → left (pump s .session) < left s
+unfolding quiet passEnds send
+left-falls s = from (pump-is s)
+  where
+    from : {p : Pumped} → Pumps s p → outboundNo (p .answer) ≡ 0 → left (p .session) < left s
+    from (refused bad) z = absurd (omega arith)
+    from (ended ok) z = absurd (omega arith)
+    from (sends emit place k body ok e h) z = omega (arith, fell s emit place k body e .falls)
+
+-- n pumps in a row
+unfoldable pub pumps : ℕ → Session → Session
+pumps zero s = s
+pumps (suc n) s = pumps n (pump s .session)
+
+-- a pass: at most n messages, and then 71
+pub record Pass (s : Session) (n : ℕ) : Type 0 where
+  pub long : ℕ
+  pub most : long ≤ n
+  pub before : (j : ℕ) → j < long → outboundNo (pump (pumps j s) .answer) ≡ 0
+  pub end : outboundNo (pump (pumps long s) .answer) ≡ 71
+
+answers : (s : Session) → badState (s .params) ≡ false → {G : Type 0}
+    → (outboundNo (pump s .answer) ≡ 0 → G) → (outboundNo (pump s .answer) ≡ 71 → G) → G
+unfolding quiet passEnds send
+answers s ok {G} f g = from (pump-is s) f g
+  where
+    from : {p : Pumped} → Pumps s p → (outboundNo (p .answer) ≡ 0 → G) → (outboundNo (p .answer) ≡ 71 → G) → G
+    from (refused bad) f g = absurd (true≢false (sym bad ∙ ok))
+    from (ended ok) f g = g refl
+    from (sends emit place k body ok e h) f g = f refl
+
+no-more : (s : Session) (n : ℕ) → outboundNo (pump s .answer) ≡ 71 → Pass s n
+unfolding pumps
+no-more s n z = record { long = 0; most = omega arith; before = λ j l. absurd (omega arith); end = z }
+
+one-more : (s : Session) (n : ℕ) → outboundNo (pump s .answer) ≡ 0 → Pass (pump s .session) n → Pass s (suc n)
+unfolding pumps
+one-more s n z r = record { long = suc (r .long); most = omega (arith, r .most); before = upto; end = r .end }
+  where
+    upto : (j : ℕ) → j < suc (r .long) → outboundNo (pump (pumps j s) .answer) ≡ 0
+    upto zero l = z
+    upto (suc j) l = r .before j (omega arith)
+
+pass-in : (n : ℕ) (s : Session) → badState (s .params) ≡ false → left s ≤ n → Pass s n
+pass-in zero s ok h = answers s ok (λ z. absurd (omega (arith, left-falls s z))) (λ z. no-more s zero z)
+pass-in (suc n) s ok h =
+    answers s ok
+    (λ z. one-more s n z (pass-in n (pump s .session) (ap (λ (q : Session). badState (q .params)) (pump-moves s) ∙ ok) (omega (arith, left-falls s z))))
+    (λ z. no-more s (suc n) z)
+
+-- with no other call between, at most 21 messages precede 71
+pub pass : (s : Session) → badState (s .params) ≡ false → Pass s 21
+pass s ok = pass-in 21 s ok (left-le (s .params) (sound (s .params) ok) (s .emit) (s .place))
+
+refused-first : (s : Session) → badState (s .params) ≡ true → outboundNo (pump (pumps 0 s) .answer) ≡ 20
+unfolding pumps pump quiet
+refused-first s bad = ap (λ (p : Pumped). outboundNo (p .answer)) (if-true (quiet s BadState) (pumpFrom s (s .emit)) bad)
+
+-- and 22 pumps in a row do not all answer with a message
+pub at-most-21 : (s : Session) (n : ℕ) → ((j : ℕ) → j < n → outboundNo (pump (pumps j s) .answer) ≡ 0) → n ≤ 21
+at-most-21 s n all =
+    decide (badState (s .params))
+    (λ bad. caseLt 0 n (λ l. absurd (omega (arith, all 0 l, refused-first s bad))) (λ l. omega arith))
+    (λ ok.
+    let r = pass s ok in
+    caseLt (r .long) n (λ l. absurd (omega (arith, all (r .long) l, r .end))) (λ l. omega (arith, r .most)))
+
+-- ---- what an Inputs carries
+
+module _ (w : Window) (seat : ℕ) where
+  span-is : (tick n : ℕ) → span w seat tick (suc n) ≡ if isHeld w seat tick then (if eqb tick 0 then 1 else suc (span w seat (tick - 1) n)) else 0
+  unfolding span
+  span-is tick n = refl
+
+  span-zero : (tick : ℕ) → span w seat tick 0 ≡ 0
+  unfolding span
+  span-zero tick = refl
+
+  held-on : (tick m i : ℕ) → isHeld w seat tick ≡ true → ((j : ℕ) → j < m → isHeld w seat (tick - 1 - j) ≡ true) → i < suc m
+      → isHeld w seat (tick - i) ≡ true
+  held-on tick m zero e f l = let q : tick - 0 ≡ tick = omega arith in rw q e
+  held-on tick m (suc i) e f l = let q : tick - suc i ≡ tick - 1 - i = omega arith in rw q (f i (omega arith))
+
+  -- every frame that is counted is held
+  span-held : (tick n i : ℕ) → i < span w seat tick n → isHeld w seat (tick - i) ≡ true
+  span-held tick zero i = rw span-zero (λ l. absurd (omega arith))
+  span-held tick (suc n) i =
+      rw span-is
+      (byTest (λ (x : ℕ). i < x → isHeld w seat (tick - i) ≡ true)
+      (λ e.
+      byTest (λ (x : ℕ). i < x → isHeld w seat (tick - i) ≡ true)
+      (λ _ l. let q : tick - i ≡ tick = omega arith in rw q e)
+      (λ _ l. held-on tick (span w seat (tick - 1) n) i e (span-held (tick - 1) n) l))
+      (λ _ l. absurd (omega arith)))
+
+  -- the frame before the first x is not held, where fewer than n were asked for and there are so many ticks
+  record Stops (tick n x : ℕ) : Type 0 where
+    so : x < n → x ≤ tick → isHeld w seat (tick - x) ≡ false
+
+  -- and the one before them is not
+  span-stops : (tick n : ℕ) → Stops tick n (span w seat tick n)
+  span-stops tick zero = record { so = λ l m. absurd (omega arith) }
+  span-stops tick (suc n) =
+      rw span-is
+      (byTest (Stops tick (suc n))
+      (λ _.
+      byTest (Stops tick (suc n)) (λ z. record { so = λ l m. absurd (omega (arith, eqb-true tick 0 z)) })
+      (λ z. record {
+        so = λ l m.
+            let q : tick - suc (span w seat (tick - 1) n) ≡ tick - 1 - span w seat (tick - 1) n = omega arith in
+            rw q (span-stops (tick - 1) n .so (omega arith) (omega arith));
+      }))
+      (λ e. record { so = λ l m. let q : tick - 0 ≡ tick = omega arith in rw q e }))
+
+-- the frames end at the newest
+pub carried-newest : (s : Session) → firstTick s + carried s ≡ s .next
+carried-newest s = omega (arith, carried-next s)
+
+pub carried-held : (s : Session) (i : ℕ) → i < carried s → isHeld (s .window) (s .params .local) (firstTick s + i) ≡ true
+unfolding carried
+carried-held s i =
+    byTest (λ (x : ℕ). i < x → isHeld (s .window) (s .params .local) (s .next - x + i) ≡ true)
+    (λ _ l. absurd (omega arith))
+    (λ e l.
+    let w = s .window in
+    let seat = s .params .local in
+    let tick = s .next - 1 in
+    let n = span w seat tick redundancy in
+    let q : s .next - n + i ≡ tick - (n - 1 - i) = omega (arith, span-ticks w seat tick redundancy, eqb-false (s .next) 0 e) in
+    rw q (span-held w seat tick redundancy (n - 1 - i) (omega arith)))
+
+-- and start at the eighth, at tick 0, or after one that is no longer held
+pub carried-stops : (s : Session) → carried s < redundancy → 1 ≤ firstTick s → isHeld (s .window) (s .params .local) (firstTick s - 1) ≡ false
+unfolding carried
+carried-stops s =
+    byTest (λ (x : ℕ). x < redundancy → 1 ≤ s .next - x → isHeld (s .window) (s .params .local) (s .next - x - 1) ≡ false)
+    {b = eqb (s .next) 0} {x = 0} {y = span (s .window) (s .params .local) (s .next - 1) redundancy}
+    (λ e l m. absurd (omega (arith, eqb-true (s .next) 0 e)))
+    (λ e l m.
+    let w = s .window in
+    let seat = s .params .local in
+    let tick = s .next - 1 in
+    let n = span w seat tick redundancy in
+    let q : s .next - n - 1 ≡ tick - n = omega arith in
+    rw q (span-stops w seat tick redundancy .so l (omega arith)))
+
+-- the run: zero past the frames, and each frame in its place
+module _ (w : Window) (seat first count width : ℕ) where
+  pub length-run : length (runFrom w seat first count width) ≡ runBytes
+  unfolding runFrom
+  length-run = length-tabulate runBytes (runByte w seat first count width)
+
+  run-at : (j : ℕ) → j < runBytes → getD (runFrom w seat first count width) j 0 ≡ runByte w seat first count width j
+  unfolding runFrom
+  run-at j l = getD-tabulate runBytes (runByte w seat first count width) 0 j l
+
+  pub run-past : (j : ℕ) → j < runBytes → count * width ≤ j → getD (runFrom w seat first count width) j 0 ≡ 0
+  unfolding runByte
+  run-past j l h = run-at j l ∙ if-false _ _ (le-ltb j (count * width) h)
+
+  run-digit : (i k : ℕ) → i < count → k < width → i * width + k < runBytes
+      → getD (runFrom w seat first count width) (i * width + k) 0 ≡ getD (frameOf w seat (first + i) width) k 0
+  unfolding runByte
+  run-digit i k a b l =
+      run-at (i * width + k) l ∙ if-true _ _ (lt-ltb (i * width + k) (count * width) (digits-lt a b)) ∙ rw (digits-div i b, digits-mod i b)
+
+  pub run-frame : Sized w → seat < seats → width ≤ maxWidth → count ≤ redundancy → (i : ℕ) → i < count
+      → frameAt (runFrom w seat first count width) width i ≡ frameOf w seat (first + i) width
+  unfolding frameAt
+  run-frame ok low short few i l =
+      let run = runFrom w seat first count width in
+      let room : i * width + width ≤ runBytes = omega (arith, suc-mul i width, mul-le-mul {n₁ = suc i} {m₁ = width} {n₂ = redundancy} {m₂ = maxWidth} (omega arith) short) in
+      let long : length (take width (drop (i * width) run)) ≡ width = rw (length-take, length-drop, length-run) (omega arith) in
+      ext-getD 0 (take width (drop (i * width) run)) (frameOf w seat (first + i) width) (long ∙ sym (frame-length w seat (first + i) width ok low short))
+      (λ k m.
+      getD-take width (drop (i * width) run) k 0 (omega arith) ∙ getD-drop (i * width) run k 0 ∙ run-digit i k l (omega arith) (omega arith))
+
+-- an Inputs and its run: the newest frames, each held, and each as the window has it
+pub record Carries (s : Session) (b : InputsBody) (run : List ℕ) : Type 0 where
+  pub some : 1 ≤ b .count
+  pub most : b .count ≤ redundancy
+  pub width : b .width ≡ s .params .width
+  pub newest : b .first + b .count ≡ s .next
+  pub held : (i : ℕ) → i < b .count → isHeld (s .window) (s .params .local) (b .first + i) ≡ true
+  pub frame : (i : ℕ) → i < b .count → frameAt run (b .width) i ≡ frameOf (s .window) (s .params .local) (b .first + i) (b .width)
+
+abbrev inputsNow : Session → InputsBody
+inputsNow s = record { first = firstTick s; count = carried s; width = s .params .width }
+
+carries : (s : Session) → badState (s .params) ≡ false → Sized (s .window) → (carried s ≡ 0 → ⊥) → Carries s (inputsNow s) (runOf s)
+unfolding runOf
+carries s good ok some =
+    let p = sound (s .params) good in
+    record {
+      some = omega (arith, some);
+      most = carried-le s;
+      width = refl;
+      newest = carried-newest s;
+      held = carried-held s;
+      frame =
+          run-frame (s .window) (s .params .local) (firstTick s) (carried s) (s .params .width) ok (omega (arith, p .local, p .count .greatest))
+          (p .width .greatest) (carried-le s);
+    }
+
+-- the kind that says an Inputs
+says-inputs : (s : Session) (emit : Emit) (b : InputsBody) → saying s emit ≡ Says (Body′.Inputs b) → (carried s ≡ 0 → ⊥) × (inputsNow s ≡ b)
+unfolding saying inputsOf digestOf
+says-inputs s Hello b e = let z : _≡_ {A = ℕ} 0 1 = cc in absurd (omega arith)
+says-inputs s Inputs b e =
+    byTest (λ (x : Saying). x ≡ Says (Body′.Inputs b) → (carried s ≡ 0 → ⊥) × (inputsNow s ≡ b))
+    (λ _ e. let z : _≡_ {A = ℕ} 0 1 = cc in absurd (omega arith))
+    (λ t e. (eqb-false (carried s) 0 t, cc))
+    e
+says-inputs s Digest b e = owed-not (s .owed) e
+  where
+    owed-not : (x : Cell) → digestOf x ≡ Says (Body′.Inputs b) → (carried s ≡ 0 → ⊥) × (inputsNow s ≡ b)
+    owed-not Empty e = let z : _≡_ {A = ℕ} 0 1 = cc in absurd (omega arith)
+    owed-not (Holds f) e = let z : _≡_ {A = ℕ} 0 1 = cc in absurd (omega arith)
+says-inputs s Bye b e = let z : _≡_ {A = ℕ} 0 1 = cc in absurd (omega arith)
+says-inputs s Done b e = let z : _≡_ {A = ℕ} 0 1 = cc in absurd (omega arith)
+
+message-of : {j k : ℕ} {l m : Message} → Send j l ≡ Send k m → l ≡ m
+message-of e = cc
+
+seat-of : {j k : ℕ} {l m : Message} → Send j l ≡ Send k m → j ≡ k
+seat-of e = cc
+
+-- an Inputs that is sent carries exactly the newest frames that are held without a gap
+pub inputs-sent : (s : Session) (k : ℕ) (m : Message) (b : InputsBody)
+    → Sized (s .window) → pump s .answer ≡ Send k m → m .body ≡ Body′.Inputs b → Carries s b (pump s .run)
+unfolding quiet passEnds send runBeside
+inputs-sent s k m b ok = from (pump-is s)
+  where
+    from : {p : Pumped} → Pumps s p → p .answer ≡ Send k m → m .body ≡ Body′.Inputs b → Carries s b (p .run)
+    from (refused bad) e q = let z : _≡_ {A = ℕ} 0 1 = cc in absurd (omega arith)
+    from (ended good) e q = let z : _≡_ {A = ℕ} 0 1 = cc in absurd (omega arith)
+    from (sends emit place j body good t h) e q =
+        let is : body ≡ Body′.Inputs b = ap (λ (x : Message). x .body) (message-of e) ∙ q in
+        let both = says-inputs s emit b (told s emit place j body t .says ∙ ap Says is) in
+        rw (is, ← both .1) (carries s good ok (both .0))
+
+-- ---- every message: from the local seat and of this session, to a remote
+pub record Sent (s : Session) (k : ℕ) (m : Message) : Type 0 where
+  pub sender : m .sender ≡ s .params .local
+  pub session : m .session ≡ s .params .session
+  pub remote : has (remotesOf (s .params)) k ≡ true
+  pub good : badState (s .params) ≡ false
+
+pub message-sent : (s : Session) (k : ℕ) (m : Message) → pump s .answer ≡ Send k m → Sent s k m
+unfolding quiet passEnds send
+message-sent s k m = from (pump-is s)
+  where
+    from : {p : Pumped} → Pumps s p → p .answer ≡ Send k m → Sent s k m
+    from (refused bad) e = let z : _≡_ {A = ℕ} 0 1 = cc in absurd (omega arith)
+    from (ended good) e = let z : _≡_ {A = ℕ} 0 1 = cc in absurd (omega arith)
+    from (sends emit place j body good t h) e =
+        let same = sym (message-of e) in
+        record {
+          sender = ap (λ (x : Message). x .sender) same;
+          session = ap (λ (x : Message). x .session) same;
+          remote = rw (seat-of e) at (fell s emit place j body t .remote);
+          good = good;
+        }

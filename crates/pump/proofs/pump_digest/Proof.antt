@@ -1,0 +1,26 @@
+-- `pump::pump_digest` meets its contract. Assumes nothing.
+use mathlib.Core.Path.{sym, _∙_}
+use borrow.Author.Needs.{needs}
+use Rattle.session.specs.declared.Emit.the-variants.{Digest}
+use Rattle.pump.specs.Pump.{passEnds, pumpDigest}
+use Rattle.pump.proofs.Loops.{sent-one, sent-none}
+use Rattle.pump.proofs.pump_digest.Statement.{statement}
+use Rattle.pump.proofs.pump_digest.Tie as tie
+
+returns : tie.Need-returns
+unfolding pumpDigest
+returns c =
+    let at = c .before .before .before .before in
+    let s = at .before .args .s in
+    c .send .ensures ∙ sym (sent-one s Digest (passEnds s) (sym (at .say-next .ensures) ∙ c .before .before .said .given .1))
+
+returns-2 : tie.Need-returns-2
+unfolding pumpDigest
+returns-2 c =
+    let at = c .before .before .before in
+    let s = at .before .args .s in
+    c .pass-ends .ensures ∙ sym (sent-none s Digest (passEnds s) (sym (at .say-next .ensures) ∙ c .before .enum-told .given .1))
+
+pub pump-digest-spec : {M : Type 1} → statement M
+pump-digest-spec =
+    tie.close (tie.spec (search needs) (search needs) (λ c κs. c .before .before .before .before .pre) returns (search needs) (search needs) returns-2)
