@@ -1,14 +1,20 @@
 -- What a reader of the rules wants to see said of a delivery: 20 and an ended session change nothing at all, a refusal changes nothing but the
--- counters and the sender's playing mark, the first outcome stays, and no counter falls.
+-- counters and the sender's playing mark, the first outcome stays, no counter falls, and a frame that is held is never overwritten.
 -- Assumes nothing.
-use Prim.Native.Nat.{ℕ, _≤_}
-use mathlib.Core.Path.{_≡_, refl, ap, _∙_}
+use Prim.Native.Nat.{ℕ, _+_, _≤_, _<_}
+use mathlib.Core.Path.{_≡_, refl, sym, ap, _∙_}
 use mathlib.Core.List.{List}
-use mathlib.Core.Bool.{Bool, true, false}
+use mathlib.Core.Bool.{Bool, true, false, not, true≢false}
 use native.Mathlib.Omega.{arith}
 use Rattle.logic.specs.Saturating.{most}
-use Rattle.logic.proofs.Cases.{byTest, if-true, if-false}
-use Rattle.params.specs.Params.{badState}
+use borrow.Author.Tests.{eqb-true, not-false}
+use Rattle.logic.proofs.Cases.{byTest, caseLt, if-true, if-false}
+use Rattle.peer.specs.Seats.{seats, has, firstSeats}
+use Rattle.peer.specs.Cells.{window}
+use Rattle.peer.proofs.Laws.{has-none, setOf-lt}
+use Rattle.params.specs.Params.{maxWidth, badState, rosterOf}
+use Rattle.params.specs.declared.SessionParams.{SessionParams}
+use Rattle.params.proofs.Laws.{Sound}
 use Rattle.wire.specs.Wire.{formOf}
 use Rattle.wire.specs.declared.Form.{Form}
 use Rattle.wire.specs.declared.Form.the-variants as Form′
@@ -18,11 +24,12 @@ use Rattle.wire.specs.declared.HelloBody.{HelloBody}
 use Rattle.wire.specs.declared.InputsBody.{InputsBody}
 use Rattle.wire.specs.declared.DigestBody.{DigestBody}
 use Rattle.wire.specs.declared.Message.{Message}
-use Rattle.window.specs.Absorb.{absorbInputs}
+use Rattle.window.specs.Absorb.{untouched, absorbInputs}
 use Rattle.window.specs.declared.Note.{Note}
 use Rattle.window.specs.declared.Note.the-variants as Note′
 use Rattle.window.specs.declared.Absorbed.{Absorbed}
-use Rattle.window.proofs.Absorbing.{unwritten, repeats-rise, repeats-fit}
+use Rattle.window.specs.declared.Window.{Window}
+use Rattle.window.proofs.Absorbing.{unwritten, repeats-rise, repeats-fit, Kept, first-write-wins}
 use Rattle.fingerprint.specs.Judging.{arrival}
 use Rattle.fingerprint.specs.declared.Arrival.{Arrival}
 use Rattle.fingerprint.specs.declared.Arrival.the-variants.{New, Repeated, Contradicted}
@@ -34,7 +41,6 @@ use Rattle.session.specs.declared.Outcome.{Outcome}
 use Rattle.session.specs.declared.Standing.{Standing}
 use Rattle.session.specs.declared.Standing.the-variants.{Open, Over}
 use Rattle.session.specs.declared.Session.{Session}
-use Rattle.session.proofs.Laws.{Stays, ended-stays, started-stays}
 use Rattle.deliver.specs.declared.Refusal.{Refusal}
 use Rattle.deliver.specs.declared.Delivery.{Delivery}
 use Rattle.deliver.specs.declared.Delivery.the-variants.{Accepted, Ended, BadState, Refused}
@@ -65,11 +71,18 @@ pub record OnlyMarks (s t : Session) : Type 0 where
   pub stats : SessionStats
   pub is : t ≡ withStats (withSeen s seen) stats
 
+-- the window after a delivery: as it was, or with one message's frames of the agreed width taken
+pub data WindowOf (s : Session) (w : Window) : Type 0 where
+  same : w ≡ s .window → WindowOf s w
+  took : (sender : ℕ) (i : InputsBody) (run : List ℕ) → sender < seats → i .width ≡ s .params .width
+      → w ≡ absorbInputs (s .window) (s .stats .«frames_repeated») (s .pending) sender i run .window → WindowOf s w
+
 pub record OfDelivery (s : Session) (r : Delivered) : Type 0 where
   -- 21 to 31 change the marks and the counters alone
   pub refused : (x : Refusal) → r .answer ≡ Refused x → OnlyMarks s (r .session)
   -- no counter falls
   pub rises : Each _≤_ (s .stats) (r .session .stats)
+  pub window : WindowOf s (r .session .window)
 
 abbrev rises-not : (c : SessionStats) → Each _≤_ c c
 rises-not c = record { refused = omega arith; repeated = omega arith; contradicted = omega arith; beyond = omega arith; digests = omega arith; stalls = omega arith }
@@ -84,9 +97,23 @@ rises-then {a} {b} {c} f g = record {
   stalls = omega arith;
 }
 
--- an answer that is no refusal, over a session with the same counters
-calm : {s : Session} (t : Session) (a : Delivery) → ((x : Refusal) → a ≡ Refused x → ⊥) → t .stats ≡ s .stats → OfDelivery s (delivered t a)
-calm {s} t a n e = record { refused = λ x q. absurd (n x q); rises = rw e (rises-not (s .stats)) }
+-- a session with the same counters and the same window
+record Alike (s t : Session) : Type 0 where
+  stats : t .stats ≡ s .stats
+  window : t .window ≡ s .window
+
+-- an answer that is no refusal, over a session like it
+calm : {s : Session} (t : Session) (a : Delivery) → ((x : Refusal) → a ≡ Refused x → ⊥) → Alike s t → OfDelivery s (delivered t a)
+calm {s} t a n e = record { refused = λ x q. absurd (n x q); rises = rw (e .stats) (rises-not (s .stats)); window = same (e .window) }
+
+-- ending and starting a session leave both
+ended-alike : (s t : Session) (o : Outcome) → Alike s t → Alike s (ended t o)
+unfolding ended
+ended-alike s t o e = record { stats = e .stats; window = e .window }
+
+started-alike : (s t : Session) → Alike s t → Alike s (started t)
+unfolding started
+started-alike s t e = byTest (Alike s) (λ _. record { stats = e .stats; window = e .window }) (λ _. e)
 
 not-accepted : (x : Refusal) → Accepted ≡ Refused x → ⊥
 not-accepted x e = let z : _≡_ {A = ℕ} 0 1 = cc in omega arith
@@ -103,19 +130,20 @@ unfolding refuse
 refuse-of seen c x f fit = record {
   refused = λ _ _. record { seen = seen; stats = countedOf c (refusalNo x); is = refl };
   rises = rises-then f (counted-rises c (refusalNo x) fit);
+  window = same refl;
 }
 
 module _ (s : Session) (fit : Fit (s .stats)) where
   plain-refusal : (x : Refusal) → OfDelivery s (refuse s x)
   plain-refusal x = refuse-of (s .seen) (s .stats) x (rises-not (s .stats)) fit
 
-  end-of : (t : Session) (o : Outcome) → t .stats ≡ s .stats → OfDelivery s (endWith t o)
+  end-of : (t : Session) (o : Outcome) → Alike s t → OfDelivery s (endWith t o)
   unfolding endWith
-  end-of t o e = calm {s = s} (ended t o) (Ended o) (not-ended o) (ended-stays t o .stats ∙ e)
+  end-of t o e = calm {s = s} (ended t o) (Ended o) (not-ended o) (ended-alike s t o e)
 
   hello-of : (sender : ℕ) (h : HelloBody) → OfDelivery s (acceptHello s sender h)
   unfolding acceptHello
-  hello-of sender h = byTest (OfDelivery s) (λ _. calm {s = s} _ Accepted not-accepted (started-stays _ .stats)) (λ _. plain-refusal _)
+  hello-of sender h = byTest (OfDelivery s) (λ _. calm {s = s} _ Accepted not-accepted (started-alike s _ (record { stats = refl; window = refl }))) (λ _. plain-refusal _)
 
 -- ---- frames
 
@@ -128,17 +156,22 @@ unfolding repeatedOf
 repeated-fits c n h f = record { refused = f .refused; repeated = h; contradicted = f .contradicted; beyond = f .beyond; digests = f .digests; stalls = f .stalls }
 
 -- a note's refusal, where nothing was written and where something was
-note-of : {s : Session} (r : Delivered) (wrote : Bool) → Each _≤_ (s .stats) (r .session .stats) → (wrote ≡ false → OfDelivery s r) → OfDelivery s (noteAnswer r wrote)
+note-of : {s : Session} (r : Delivered) (wrote : Bool) → Each _≤_ (s .stats) (r .session .stats) → WindowOf s (r .session .window)
+    → (wrote ≡ false → OfDelivery s r) → OfDelivery s (noteAnswer r wrote)
 unfolding noteAnswer
-note-of {s} r wrote rises f = byTest (OfDelivery s) (λ _. record { refused = λ x q. absurd (not-accepted x q); rises = rises }) f
+note-of {s} r wrote rises window f = byTest (OfDelivery s) (λ _. record { refused = λ x q. absurd (not-accepted x q); rises = rises; window = window }) f
+
+refuse-window : (s t : Session) (x : Refusal) → WindowOf s (t .window) → WindowOf s (refuse t x .session .window)
+unfolding refuse
+refuse-window s t x h = h
 
 refuse-rises : (t : Session) (x : Refusal) → Fit (t .stats) → Each _≤_ (t .stats) (refuse t x .session .stats)
 unfolding refuse
 refuse-rises t x fit = counted-rises (t .stats) (refusalNo x) fit
 
-marked-stats : (s : Session) (sender : ℕ) → marked s sender .stats ≡ s .stats
+marked-alike : (s : Session) (sender : ℕ) → Alike s (marked s sender)
 unfolding marked
-marked-stats s sender = refl
+marked-alike s sender = record { stats = refl; window = refl }
 
 module _ (s : Session) (fit : Fit (s .stats)) (sender : ℕ) where
   marked-refusal : (x : Refusal) → OfDelivery s (refuse (marked s sender) x)
@@ -146,46 +179,49 @@ module _ (s : Session) (fit : Fit (s .stats)) (sender : ℕ) where
   marked-refusal x = refuse-of _ (s .stats) x (rises-not (s .stats)) fit
 
   -- the session with a message's frames taken, and what a note makes of it
-  module _ (a : Absorbed) (rises : s .stats .«frames_repeated» ≤ a .repeated) (fits : a .repeated ≤ most) (same : a .wrote ≡ false → a .window ≡ s .window) where
+  module _ (a : Absorbed) (rises : s .stats .«frames_repeated» ≤ a .repeated) (fits : a .repeated ≤ most)
+      (unwritten : a .wrote ≡ false → a .window ≡ s .window) (window : WindowOf s (a .window)) where
     abbrev taken : Session
     taken = withFrames (marked s sender) (a .window) (repeatedOf (s .stats) (a .repeated))
 
     unwritten-refusal : (x : Refusal) → a .wrote ≡ false → OfDelivery s (refuse taken x)
     unfolding marked
-    unwritten-refusal x e = rw (same e) (refuse-of _ (repeatedOf (s .stats) (a .repeated)) x (repeated-rises (s .stats) (a .repeated) rises) (repeated-fits (s .stats) (a .repeated) fits fit))
+    unwritten-refusal x e = rw (unwritten e) (refuse-of _ (repeatedOf (s .stats) (a .repeated)) x (repeated-rises (s .stats) (a .repeated) rises) (repeated-fits (s .stats) (a .repeated) fits fit))
 
     noted-refusal : (x : Refusal) → OfDelivery s (noteAnswer (refuse taken x) (a .wrote))
     noted-refusal x =
         note-of (refuse taken x) (a .wrote)
         (rises-then (repeated-rises (s .stats) (a .repeated) rises) (refuse-rises taken x (repeated-fits (s .stats) (a .repeated) fits fit)))
+        (refuse-window s taken x window)
         (unwritten-refusal x)
 
     noted-of : (note : Note) → OfDelivery s (noted taken note (a .wrote))
     unfolding noted
-    noted-of Note′.Nothing = record { refused = λ x q. absurd (not-accepted x q); rises = repeated-rises (s .stats) (a .repeated) rises }
+    noted-of Note′.Nothing = record { refused = λ x q. absurd (not-accepted x q); rises = repeated-rises (s .stats) (a .repeated) rises; window = window }
     noted-of (Note′.OutOfWindow tick pending) = noted-refusal _
     noted-of (Note′.Contradiction peer tick) = noted-refusal _
 
-  inputs-of : (i : InputsBody) (run : List ℕ) → OfDelivery s (absorb (marked s sender) sender i run)
+  inputs-of : (i : InputsBody) (run : List ℕ) → sender < seats → OfDelivery s (absorb (marked s sender) sender i run)
   unfolding absorb framesTaken marked
-  inputs-of i run =
+  inputs-of i run low =
       let a = absorbInputs (s .window) (s .stats .«frames_repeated») (s .pending) sender i run in
       byTest (OfDelivery s)
-      (λ _. noted-of a (repeats-rise (s .window) _ (s .pending) sender i run (fit .repeated)) (repeats-fit (s .window) _ (s .pending) sender i run (fit .repeated))
-      (unwritten (s .window) _ (s .pending) sender i run (fit .repeated)) (a .note))
+      (λ agreed. noted-of a (repeats-rise (s .window) _ (s .pending) sender i run (fit .repeated)) (repeats-fit (s .window) _ (s .pending) sender i run (fit .repeated))
+      (unwritten (s .window) _ (s .pending) sender i run (fit .repeated)) (took sender i run low (eqb-true (i .width) (s .params .width) agreed) refl) (a .note))
       (λ _. marked-refusal _)
 
   -- ---- a Digest
 
-  judged-of : (t : Session) (tick : ℕ) → t .stats ≡ s .stats → OfDelivery s (judged t tick)
+  judged-of : (t : Session) (tick : ℕ) → Alike s t → OfDelivery s (judged t tick)
   unfolding judged
   judged-of t tick e = byTest (OfDelivery s) (λ _. end-of s fit t _ e) (λ _. calm {s = s} t Accepted not-accepted e)
 
   hear-by-of : (d : DigestBody) (a : Arrival) → OfDelivery s (hearBy (marked s sender) sender d a)
   unfolding hearBy
   hear-by-of d Contradicted = marked-refusal _
-  hear-by-of d Repeated = calm {s = s} (marked s sender) Accepted not-accepted (marked-stats s sender)
-  hear-by-of d New = judged-of _ (d .tick) (marked-stats s sender)
+  hear-by-of d Repeated = calm {s = s} (marked s sender) Accepted not-accepted (marked-alike s sender)
+  hear-by-of d New =
+      judged-of _ (d .tick) record { stats = marked-alike s sender .stats; window = marked-alike s sender .window }
 
   digest-of : (d : DigestBody) → OfDelivery s (hear (marked s sender) sender d)
   unfolding hear
@@ -193,13 +229,26 @@ module _ (s : Session) (fit : Fit (s .stats)) (sender : ℕ) where
 
   -- ---- every kind
 
-  accept-of : (b : Body) (run : List ℕ) → OfDelivery s (accept s sender b run)
+  accept-of : (b : Body) (run : List ℕ) → sender < seats → OfDelivery s (accept s sender b run)
   unfolding accept
-  accept-of (Body′.Hello h) run = hello-of s fit sender h
-  accept-of (Body′.Inputs i) run = inputs-of i run
-  accept-of (Body′.Digest d) run = digest-of d
-  accept-of (Body′.Bye b) run = end-of s fit s _ refl
-  accept-of (Body′.Other kind) run = plain-refusal s fit _
+  accept-of (Body′.Hello h) run low = hello-of s fit sender h
+  accept-of (Body′.Inputs i) run low = inputs-of i run low
+  accept-of (Body′.Digest d) run low = digest-of d
+  accept-of (Body′.Bye b) run low = end-of s fit s _ record { stats = refl; window = refl }
+  accept-of (Body′.Other kind) run low = plain-refusal s fit _
+
+-- who is in the roster is a seat
+roster-low : (p : SessionParams) (k : ℕ) → not (has (rosterOf p) k) ≡ false → k < seats
+unfolding rosterOf firstSeats
+roster-low p k e =
+    caseLt k seats (λ l. l)
+    (λ l. absurd (true≢false (sym (not-false (has (rosterOf p) k) e) ∙ has-none seats (rosterOf p) k (setOf-lt seats _) l)))
+
+inputs-keep : (pending r u : ℕ) (frame : List ℕ) → r < seats → pending ≤ u → u < pending + window → (w : Window) (repeated sender : ℕ) (i : InputsBody) (run : List ℕ) (n : ℕ)
+    → i .width ≡ n → n ≤ maxWidth → sender < seats → Kept pending n r u frame w → Kept pending n r u frame (absorbInputs w repeated pending sender i run .window)
+unfolding absorbInputs
+inputs-keep pending r u frame low least greatest w repeated sender i run n e narrow fits k =
+    rw e (first-write-wins pending n r u frame low narrow least greatest (untouched w repeated) sender (i .first) run (i .count) fits k)
 
 module _ (s : Session) (fit : Fit (s .stats)) (source : ℕ) (m : Message) (run : List ℕ) where
   header-of : OfDelivery s (fromHeader s source m run)
@@ -208,7 +257,8 @@ module _ (s : Session) (fit : Fit (s .stats)) (source : ℕ) (m : Message) (run 
       byTest (OfDelivery s) (λ _. plain-refusal s fit _)
       (λ _. byTest (OfDelivery s) (λ _. plain-refusal s fit _)
       (λ _. byTest (OfDelivery s) (λ _. plain-refusal s fit _)
-      (λ _. byTest (OfDelivery s) (λ _. plain-refusal s fit _) (λ _. accept-of s fit (m .sender) (m .body) run))))
+      (λ _. byTest (OfDelivery s) (λ _. plain-refusal s fit _)
+      (λ inside. accept-of s fit (m .sender) (m .body) run (roster-low (s .params) (m .sender) inside)))))
 
   form-of : (f : Form) → OfDelivery s (deliverForm s source m run f)
   unfolding deliverForm
@@ -217,9 +267,24 @@ module _ (s : Session) (fit : Fit (s .stats)) (source : ℕ) (m : Message) (run 
 
   standing-of : (o : Standing) → OfDelivery s (deliverBy s source m run o)
   unfolding deliverBy
-  standing-of (Over o) = calm {s = s} s (Ended o) (not-ended o) refl
+  standing-of (Over o) = calm {s = s} s (Ended o) (not-ended o) record { stats = refl; window = refl }
   standing-of Open = form-of (formOf m run)
 
   pub of-delivery : OfDelivery s (deliver s source m run)
   unfolding deliver
-  of-delivery = byTest (OfDelivery s) (λ _. calm {s = s} s BadState not-bad refl) (λ _. standing-of (s .outcome))
+  of-delivery = byTest (OfDelivery s) (λ _. calm {s = s} s BadState not-bad record { stats = refl; window = refl }) (λ _. standing-of (s .outcome))
+
+  -- ---- a frame that is held at or above pending is never overwritten
+
+  pub held-stays : Sound (s .params) → (r u : ℕ) (frame : List ℕ) → r < seats → s .pending ≤ u → u < s .pending + window
+      → Kept (s .pending) (s .params .width) r u frame (s .window)
+      → Kept (s .pending) (s .params .width) r u frame (deliver s source m run .session .window)
+  held-stays ok r u frame low least greatest k = from (deliver s source m run .session .window) (of-delivery .window)
+    where
+      from : (w : Window) → WindowOf s w → Kept (s .pending) (s .params .width) r u frame w
+      from w (same e) = rw e k
+      from w (took sender i frames fits width e) = rw e (kept sender i frames fits width)
+        where
+          kept : (sender : ℕ) (i : InputsBody) (frames : List ℕ) → sender < seats → i .width ≡ s .params .width
+              → Kept (s .pending) (s .params .width) r u frame (absorbInputs (s .window) (s .stats .«frames_repeated») (s .pending) sender i frames .window)
+          kept sender i frames fits width = inputs-keep (s .pending) r u frame low least greatest (s .window) (s .stats .«frames_repeated») sender i frames (s .params .width) width (ok .width .greatest) fits k
