@@ -3,14 +3,17 @@ use mathlib.Core.Path.{_≡_, sym, _∙_}
 use mathlib.Core.Bool.{false, not}
 use Prim.Native.Nat.{_+_, _*_}
 use native.Mathlib.Omega.{arith}
-use lib.Dec.{eqb}
+use lib.Dec.{eqb, ltb}
 use borrow.Author.Needs.{needs}
 use borrow.Author.Tests.{lt-ltb, le-ltb, eq-eqb, ne-eqb}
 use Rattle.logic.specs.Test.{if_then_else_}
 use Rattle.logic.specs.Range.{outside}
 use Rattle.logic.specs.Saturating.{most}
+use Rattle.logic.proofs.Cases.{if-true, if-false}
 use Rattle.logic.proofs.Products.{mul-lt-pow}
 use Rattle.params.specs.Params.{maxWidth}
+use Rattle.wire.specs.declared.Form.the-variants.{Good, Malformed}
+use Rattle.wire.specs.declared.WireError.the-variants.{TickOverflow}
 use Rattle.wire.specs.Wire.{inputsForm, redundancy}
 use Rattle.wire.proofs.InputsBody.form.Statement.{statement}
 use Rattle.wire.proofs.InputsBody.form.Tie as tie
@@ -42,21 +45,21 @@ returns-3 c =
 as-long : (c : tie.Else3) → let a = c .before .before .before .before .before .before .before .args in not (eqb (a .length) (a .self .count * a .self .width)) ≡ false
 as-long c = rw (← c .before .before .wide .ensures, ← c .before .wide2 .ensures, eq-eqb _ _ (c .if3 .left))
 
-returns-4 : tie.Need-returns-4
+-- past reasons 4, 7 and 8, the last
+last : (c : tie.Else3) → let a = c .before .before .before .before .before .before .before .args in
+    inputsForm (a .self) (a .length) ≡ if ltb most (a .self .first + a .self .count) then Malformed (TickOverflow (a .self .first) (a .self .count)) else Good
 unfolding inputsForm if_then_else_
+last c = let two = c .before .before .before in rw (width-in (two .before .before), count-in two, as-long c)
+
+returns-4 : tie.Need-returns-4
 returns-4 c =
-    let three = c .before .before .before in
-    let two = three .before .before .before in
-    let a = two .before .before .before .before .args in
-    rw (width-in (two .before .before), count-in two, as-long three, lt-ltb most (a .self .first + a .self .count) (omega arith))
+    let a = c .before .before .before .before .before .before .before .before .before .before .args .self in
+    sym (last (c .before .before .before) ∙ if-true _ _ (lt-ltb most (a .first + a .count) (omega arith)))
 
 returns-5 : tie.Need-returns-5
-unfolding inputsForm if_then_else_
 returns-5 c =
-    let three = c .before .before .before in
-    let two = three .before .before .before in
-    let a = two .before .before .before .before .args in
-    rw (width-in (two .before .before), count-in two, as-long three, le-ltb most (a .self .first + a .self .count) (omega arith))
+    let a = c .before .before .before .before .before .before .before .before .before .before .args .self in
+    sym (last (c .before .before .before) ∙ if-false _ _ (le-ltb most (a .first + a .count) (omega arith)))
 
 pub form-spec : {M : Type 1} → statement M
 form-spec =
