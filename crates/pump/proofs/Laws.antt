@@ -1,9 +1,9 @@
 -- What later layers use of the pump: what it can do, that it moves nothing but its own kind and place, that at most 21 messages precede 71, and
 -- that an Inputs carries the newest local frames that are still held, each in its place of the run.
 -- Assumes nothing.
-use Prim.Native.Nat.{ℕ, zero, suc, _+_, _-_, _*_, _/_, _%_, _<_, _≤_, min}
+use Prim.Native.Nat.{ℕ, zero, suc, _+_, _-_, _*_, _<_, _≤_, min}
 use mathlib.Core.Path.{_≡_, refl, sym, ap, _∙_}
-use mathlib.Core.Bool.{Bool, true, false, not, _&&_, and-false, true≢false}
+use mathlib.Core.Bool.{Bool, true, false, not, and-false, true≢false}
 use mathlib.Core.List.{List}
 use native.Mathlib.Omega.{arith}
 use native.Mathlib.Nat.{mul-le-mul, suc-mul}
@@ -30,7 +30,7 @@ use Rattle.window.specs.declared.Window.{Window}
 use Rattle.window.proofs.Laws.{Sized, frame-length}
 use Rattle.fingerprint.specs.declared.Cell.{Cell}
 use Rattle.fingerprint.specs.declared.Cell.the-variants.{Empty, Holds}
-use Rattle.session.specs.Session.{withEmit, isPlaying}
+use Rattle.session.specs.Session.{withEmit}
 use Rattle.session.specs.declared.Emit.{Emit}
 use Rattle.session.specs.declared.Emit.the-variants.{Hello, Inputs, Digest, Bye, Done}
 use Rattle.session.specs.declared.Session.{Session}
@@ -40,11 +40,10 @@ use Rattle.pump.specs.declared.Saying.{Saying}
 use Rattle.pump.specs.declared.Saying.the-variants.{Silent, Says}
 use Rattle.pump.specs.declared.Say.{Say}
 use Rattle.pump.specs.declared.Say.the-variants.{No, To}
-use Rattle.pump.specs.declared.Outbound.{Outbound}
-use Rattle.pump.specs.declared.Outbound.the-variants.{Send, Nothing, BadState}
+use Rattle.pump.specs.declared.Outbound.the-variants.{Send, BadState}
 use Rattle.pump.specs.declared.Pumped.{Pumped}
 use Rattle.pump.specs.Numbers.{outboundNo}
-use Rattle.pump.specs.Pump.{nextRemote, targetOf, span, carried, firstTick, runBytes, runByte, runFrom, runOf, helloOf, inputsOf, digestOf, saying, addressed, sayTo, say, isOwed, quiet, passEnds, runBeside, send, sent, pumpDigest, pumpInputs, pumpHello, pumpBye, pumpFrom, pump}
+use Rattle.pump.specs.Pump.{nextRemote, targetOf, span, carried, firstTick, runBytes, runByte, runFrom, runOf, inputsOf, digestOf, saying, addressed, sayTo, say, quiet, passEnds, runBeside, send, sent, pumpDigest, pumpInputs, pumpHello, pumpBye, pumpFrom, pump}
 use Rattle.pump.proofs.Loops.{span-ticks, carried-le, carried-next}
 
 -- ---- the seats that are left

@@ -13,7 +13,7 @@ ghost use Rattle.wire.specs.Wire.{redundancy};
 ghost use Rattle.window.specs.Window.{frameStart};
 ghost use Rattle.pump.specs.Numbers.{outboundNo};
 ghost use Rattle.pump.specs.declared.Outbound.the-variants.{Nothing};
-ghost use Rattle.pump.specs.Pump.{quiet, nextRemote, targetOf, span, carried, runFrom, runOf, helloOf, inputsOf, digestOf, saying, addressed, say, isOwed, firstKind, passEnds, runBeside, send, pumpDigest, pumpInputs, pumpHello, pumpBye, pumpFrom, pump};
+ghost use Rattle.pump.specs.Pump.{quiet, nextRemote, span, carried, runFrom, runOf, helloOf, inputsOf, digestOf, saying, addressed, say, isOwed, firstKind, passEnds, runBeside, send, pumpDigest, pumpInputs, pumpHello, pumpBye, pumpFrom, pump};
 use fingerprint::Cell;
 use params::SessionParams;
 use peer::PeerSet;

@@ -1,6 +1,6 @@
 -- `pump::run_byte` meets its contract. Assumes nothing.
-use mathlib.Core.Path.{_≡_, sym, _∙_}
-use Prim.Native.Nat.{_*_, _<_, _≤_, _%_, _/_}
+use mathlib.Core.Path.{sym}
+use Prim.Native.Nat.{_*_, _<_, _%_}
 use native.Mathlib.Omega.{arith}
 use denote.Ref.{now}
 use borrow.Author.Needs.{needs}
