@@ -3,6 +3,8 @@
 use Prim.Native.Nat.{ℕ}
 use Rattle.session.specs.declared.Submit.{Submit}
 use Rattle.session.specs.declared.Submit.the-variants as Submit′
+use Rattle.session.specs.declared.Advance.{Advance}
+use Rattle.session.specs.declared.Advance.the-variants as Advance′
 use Rattle.session.specs.declared.Commit.{Commit}
 use Rattle.session.specs.declared.Commit.the-variants as Commit′
 use Rattle.session.specs.declared.Leave.{Leave}
@@ -24,3 +26,11 @@ commitNo Commit′.Done = 0
 commitNo Commit′.BadState = 20
 commitNo (Commit′.OutOfOrder saw expected) = 51
 commitNo (Commit′.DigestMismatch tick owed) = 52
+
+-- to wait or to stall is no refusal
+abbrev pub advanceNo : Advance → ℕ
+advanceNo (Advance′.Step step) = 0
+advanceNo Advance′.Waiting = 0
+advanceNo (Advance′.Stalled tick waiting pumps) = 0
+advanceNo (Advance′.Ended o) = 1
+advanceNo Advance′.BadState = 20

@@ -6,7 +6,7 @@ ghost use Rattle.params.specs.Params.{badState};
 ghost use Rattle.session.specs.Session.{everySeatHeld, ended, started};
 ghost use Rattle.session.specs.Host.{opened, submit, leave};
 ghost use Rattle.session.specs.Step.{beside, idle, takeStep, stall, drain, playOn, advance, judge, mismatch, keepDigest, commit};
-ghost use Rattle.session.specs.Numbers.{submitNo, leaveNo, commitNo};
+ghost use Rattle.session.specs.Numbers.{submitNo, advanceNo, commitNo, leaveNo};
 use fingerprint::Cell;
 use fingerprint::Fingerprint;
 use fingerprint::Fingerprints;
@@ -167,6 +167,25 @@ impl Leave {
         match self {
             Leave::Ended(_) => 1,
             Leave::BadState => 20,
+        }
+    }
+}
+
+impl Advance {
+    // Document 01's number. To wait or to stall is no refusal.
+    pub fn number(self) -> u8
+        ensures { λ r. ⌜ r ≡ advanceNo self ⌝ }
+    {
+        match self {
+            Advance::Step(_) => 0,
+            Advance::Waiting => 0,
+            Advance::Stalled {
+                tick: _,
+                waiting: _,
+                pumps: _,
+            } => 0,
+            Advance::Ended(_) => 1,
+            Advance::BadState => 20,
         }
     }
 }
