@@ -317,12 +317,18 @@ class Limits:
     # --- habits: ends
 
     def fork(self):
-        """One or more worlds differ at a tick to come, or at one gone by."""
+        """One or more worlds differ at a tick to come, or at one gone by. There
+        or at the own tick before it, a world may agree over other inputs."""
         own = [fingerprint.tick for fingerprint in self.s.own.values()]
         to_come = self.s.pending + -self.s.pending % self.p.period
-        tick = self.dice.pick(own) if own and self.dice.chance(50) else to_come
+        tick = self.dice.pick(own) if own and self.dice.chance(60) else to_come
+        before = max([each for each in own if each < tick], default=tick)
+        for each in before, tick:
+            if self.dice.chance(50):
+                seat = self.remote()
+                self.deliver(seat, self.digest(seat, each)._replace(input=self.dice.word()))
         for seat in self.dice.shuffled(self.s.remotes)[:self.dice.between(1, 4)]:
-            self.deliver(seat, self.digest(seat, tick, dissent=self.dice.pick([0, 0, 1, TOP])))
+            self.deliver(seat, self.digest(seat, tick, dissent=self.dice.pick([0, 1, TOP])))
 
     def fork_late(self):
         """A fork shows while a step is out whose commit takes over the cell of
