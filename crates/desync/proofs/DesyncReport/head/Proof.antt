@@ -1,0 +1,15 @@
+-- `desync::DesyncReport::head` meets its contract. Assumes nothing.
+use borrow.Author.Needs.{needs}
+use Rattle.text.proofs.Writing.{put-join}
+use Rattle.desync.specs.Json.{headText}
+use Rattle.desync.proofs.DesyncReport.head.Statement.{statement}
+use Rattle.desync.proofs.DesyncReport.head.Tie as tie
+
+returns : tie.Need-returns
+unfolding headText
+returns c =
+    let local = c .before .before .before in
+    rw (put-join, c .number3 .ensures, local .number2 .ensures, local .before .before .before .number .ensures)
+
+pub head-spec : {M : Type 1} → statement M
+head-spec = tie.close (tie.spec (search needs) (search needs) (search needs) (search needs) (search needs) (search needs) (search needs) (search needs) returns)

@@ -1,0 +1,3 @@
+mod Loops
+pub mod Laws
+mod Examples

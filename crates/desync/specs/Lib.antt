@@ -1,0 +1,4 @@
+pub mod Report
+pub mod Json
+pub mod Asked
+pub mod Numbers
