@@ -1,0 +1,14 @@
+-- `lines::bad_line` meets its contract. Assumes nothing.
+use mathlib.Core.Path.{_∙_}
+use native.Mathlib.Omega.{arith}
+use borrow.Author.Needs.{needs}
+use Rattle.lines.specs.Lines.{badLine}
+use Rattle.lines.proofs.bad_line.Statement.{statement}
+use Rattle.lines.proofs.bad_line.Tie as tie
+
+returns : tie.Need-returns
+unfolding badLine
+returns c = record { wrote = cc; fits = omega arith }
+
+pub bad-line-spec : {M : Type 1} → statement M
+bad-line-spec = tie.close (tie.spec (search needs) (search needs) (search needs) returns)

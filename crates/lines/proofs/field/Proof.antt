@@ -1,0 +1,32 @@
+-- `lines::field` meets its contract. Assumes nothing.
+use mathlib.Core.Path.{_≡_, sym}
+use Prim.Native.Nat.{min, _≤_}
+use native.Mathlib.Omega.{arith}
+use borrow.Author.Needs.{needs}
+use lib.ListN.{length, take, length-take}
+use lib.Seq.{length-take-le}
+use Rattle.text.proofs.Writing.{put-join, join-length}
+use Rattle.text.proofs.Hexes.{hex-bytes-length}
+use Rattle.lines.specs.Lines.{fieldText}
+use Rattle.lines.proofs.Laws.{take-min}
+use Rattle.lines.proofs.field.Statement.{statement}
+use Rattle.lines.proofs.field.Tie as tie
+
+array-share-prefix-row : tie.Need-array-share-prefix-row
+array-share-prefix-row c = omega arith
+
+slice-aggregate-hex-bytes : tie.Need-slice-aggregate-hex-bytes
+slice-aggregate-hex-bytes c = sym (length-take-le _ _ (omega arith))
+
+returns : tie.Need-returns
+unfolding fieldText
+returns c =
+    let a = c .before .before .before .before .args in
+    let long : length (a .t2) ≡ 16 = search needs in
+    let n : c .before .before .before .at-most .result ≡ min (a .width) (length (a .t2)) = rw long (c .before .before .before .at-most .ensures) in
+    let head : take (c .before .before .before .at-most .result) (a .t2) ≡ take (a .width) (a .t2) = rw (n, take-min) in
+    let few : length (take (a .width) (a .t2)) ≤ 16 = rw length-take (omega arith) in
+    (rw (put-join, ← head) (cc), rw (join-length, hex-bytes-length) (omega arith))
+
+pub field-spec : {M : Type 1} → statement M
+field-spec = tie.close (tie.spec (search needs) (search needs) array-share-prefix-row slice-aggregate-hex-bytes (search needs) returns)

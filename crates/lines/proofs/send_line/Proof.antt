@@ -1,0 +1,40 @@
+-- `lines::send_line` meets its contract. Assumes nothing.
+use Prim.Native.Nat.{_≤_}
+use native.Mathlib.Omega.{arith}
+use borrow.Author.Needs.{needs}
+use lib.ListN.{length}
+use Rattle.text.proofs.Writing.{put-join, join-length}
+use Rattle.text.proofs.Decimals.{decimal-20}
+use Rattle.lines.specs.Lines.{numbered, sendLine}
+use Rattle.lines.proofs.Laws.{numbered-length}
+use Rattle.lines.proofs.send_line.Statement.{statement}
+use Rattle.lines.proofs.send_line.Tie as tie
+
+short : (c : tie.After-byte2) → let a = c .before .before .before .before .before .before .before .before .before .before .before .args in length (sendLine (a .answer)) ≤ 100
+unfolding sendLine
+short c =
+    let a = c .before .before .before .before .before .before .before .before .before .answer .given in
+    rw (a .1, join-length) (omega (arith, c .before .body .ensures .1, decimal-20 (a .0 .0) (omega arith)))
+
+returns : tie.Need-returns
+unfolding sendLine
+returns c =
+    let a = c .before .before .before .before .before .before .before .before .before .answer .given in
+    let body = c .before .body .ensures in
+    let wrote = body .0 in
+    let few = short c in
+    (record { wrote = rw (a .1, put-join) (cc); fits = omega (arith, few) }, few)
+
+returns-2 : tie.Need-returns-2
+unfolding sendLine
+returns-2 c = rw (c .before .before .enum-told .given .1) (c .numbered .ensures, numbered-length _ _ (omega arith) (omega arith))
+
+returns-3 : tie.Need-returns-3
+unfolding sendLine
+returns-3 c = rw (c .before .before .enum-told2 .given .1) (c .numbered2 .ensures, numbered-length _ _ (omega arith) (omega arith))
+
+pub send-line-spec : {M : Type 1} → statement M
+send-line-spec =
+    tie.close
+    (tie.spec (search needs) (search needs) (search needs) (search needs) (search needs) (search needs) (search needs) (search needs) (search needs)
+    (search needs) (search needs) (search needs) (search needs) (search needs) (search needs) returns returns-2 returns-3)
