@@ -1,0 +1,83 @@
+-- Judging keeps the facts, and restores the agreement at the tick that it judges.
+-- Assumes nothing.
+use Prim.Native.Nat.{ℕ, _≤_, _<_}
+use mathlib.Core.Path.{_≡_, refl, sym, ap, subst, _∙_}
+use mathlib.Core.Logic.{_≢_}
+use mathlib.Core.Bool.{Bool, true, false, true≢false, _&&_, not}
+use native.Mathlib.Omega.{arith}
+use lib.Dec.{eqb, ltb}
+use borrow.Author.Tests.{lt-ltb, ne-eqb, ltb-true}
+use Rattle.logic.proofs.Cases.{byTest, caseEq, and-both}
+use Rattle.peer.specs.Seats.{seats, has}
+use Rattle.params.specs.Params.{remotesOf}
+use Rattle.params.specs.declared.SessionParams.{SessionParams}
+use Rattle.params.proofs.Laws.{has-remotes}
+use Rattle.fingerprint.specs.Judging.{parted}
+use Rattle.fingerprint.proofs.Laws.{Parted, parted-true, parted-false}
+use Rattle.session.specs.declared.Outcome.{Outcome}
+use Rattle.session.specs.declared.Outcome.the-variants.{Desynced}
+use Rattle.session.specs.declared.Standing.{Standing}
+use Rattle.session.specs.declared.Standing.the-variants.{Open, Over}
+use Rattle.session.specs.declared.Session.{Session}
+use Rattle.session.specs.Session.{over, ended}
+use Rattle.session.specs.Step.{judge}
+use Rattle.agreement.specs.World.{seated}
+use Rattle.agreement.specs.Demand.{Differ, AgreeAt}
+use Rattle.agreement.proofs.Facts.{Log, OutFacts, Base, SessOk}
+
+not-open : {o : Outcome} → Over o ≡ Open → ⊥
+not-open e = let z : _≡_ {A = ℕ} 0 1 = cc in omega arith
+
+over-not-open : (was : Standing) (o : Outcome) → over was o ≡ Open → ⊥
+over-not-open Open o e = not-open e
+over-not-open (Over q) o e = not-open e
+
+over-out : (log : Log) (i : ℕ) (was : Standing) (o : Outcome) → OutFacts log i was → ((t : ℕ) → o ≡ Desynced t → Differ log i t) → OutFacts log i (over was o)
+over-out log i Open o h d t e = d t (let q : o ≡ Desynced t = cc in q)
+over-out log i (Over q) o h d t e = h t e
+
+module _ {p : SessionParams} {log : Log} {i : ℕ} where
+  pub ended-ok : (s : Session) (o : Outcome) → ((t : ℕ) → o ≡ Desynced t → Differ log i t) → Base p log i s → SessOk p log i (ended s o)
+  unfolding ended
+  ended-ok s o d b = record {
+    base = record { par = b .par; ring = b .ring; next = b .next; fold = b .fold; prints = b .prints; out = over-out log i (s .outcome) o (b .out) d };
+    agree = λ e. absurd (over-not-open (s .outcome) o e);
+  }
+
+  module _ (few : p .count ≤ seats) (s : Session) (t : ℕ) (b : Base p log i s) where
+    -- a remote is another seat of the circle
+    remote-low : (k : ℕ) → k < seats → has (remotesOf (s .params)) k ≡ true → k < p .count
+    remote-low k l e =
+        let q : ltb k (p .count) && not (eqb k i) ≡ true = sym (ap (λ (x : SessionParams). ltb k (x .count) && not (eqb k (x .local))) (b .par)) ∙ sym (has-remotes (s .params) k l) ∙ e in
+        ltb-true k (p .count) (and-both _ _ q .0)
+
+    is-remote : (k : ℕ) → k < p .count → k ≢ i → has (remotesOf (s .params)) k ≡ true
+    is-remote k l n =
+        has-remotes (s .params) k (omega arith) ∙ ap (λ (x : SessionParams). ltb k (x .count) && not (eqb k (x .local))) (b .par)
+        ∙ rw (lt-ltb k (p .count) l, ne-eqb k i n)
+
+    apart : parted (s .prints) (remotesOf (s .params)) t ≡ true → Differ log i t
+    apart e =
+        let d = parted-true (s .prints) (remotesOf (s .params)) t e in
+        record {
+          seat = d .seat;
+          ours = d .mine .state;
+          theirs = d .theirs .state;
+          we = b .prints .own t (d .mine) (d .own);
+          they = b .prints .other (d .seat) t (d .theirs) (remote-low (d .seat) (d .low) (d .remote)) (d .other);
+          apart = λ q. d .apart (sym q);
+        }
+
+    together : parted (s .prints) (remotesOf (s .params)) t ≡ false → AgreeAt (p .count) i (s .prints) t
+    together e k mine theirs l n x y = sym (parted-false (s .prints) (remotesOf (s .params)) t e mine x k (omega arith) (is-remote k l n) theirs y)
+
+    -- agreement at every tick but t, and judged at t
+    pub judged-ok : (s .outcome ≡ Open → (t′ : ℕ) → t′ ≢ t → AgreeAt (p .count) i (s .prints) t′) → parted (s .prints) (remotesOf (s .params)) t ≡ false → SessOk p log i s
+    judged-ok a e = record { base = b; agree = λ o t′. caseEq t′ t (λ q. rw q (together e)) (λ n. a o t′ n) }
+
+    pub parted-ok : parted (s .prints) (remotesOf (s .params)) t ≡ true → SessOk p log i (ended s (Desynced t))
+    parted-ok e = ended-ok s (Desynced t) (λ t′ q. let same : t ≡ t′ = cc in rw (← same) (apart e)) b
+
+    pub judge-ok : (s .outcome ≡ Open → (t′ : ℕ) → t′ ≢ t → AgreeAt (p .count) i (s .prints) t′) → SessOk p log i (judge s t)
+    unfolding judge
+    judge-ok a = byTest (SessOk p log i) (λ e. parted-ok e) (λ e. judged-ok a e)
