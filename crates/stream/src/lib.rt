@@ -64,7 +64,7 @@ fn run_one(p: Progress, bytes: &[u8], traced: bool) -> Progress
 }
 
 // Every whole record of the bytes, in order. What is run is what the definition of a script's lines runs.
-fn run_all(s: Session, bytes: &[u8], traced: bool) -> Progress
+pub fn run_all(s: Session, bytes: &[u8], traced: bool) -> Progress
     ensures { λ r. ⌜ Upto traced s (now (bytes .entry)) (r .session) (r .used) ⌝ }
     ensures { λ r. ⌜ Ready (now (bytes .entry)) r ⌝ }
     ensures { λ r. ⌜ r .size ≡ 0 ⌝ }
