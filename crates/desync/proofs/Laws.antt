@@ -1,7 +1,7 @@
 -- Document 01: a report's text is "at most 2,048 bytes". Its numbers are u64 and bytes; then no text is longer than 1,331, so none is cut.
 -- Assumes nothing.
 use Prim.Native.Nat.{ℕ, zero, suc, _*_, _^_, _≤_, _<_, min}
-use mathlib.Core.Path.{_≡_}
+use mathlib.Core.Path.{_≡_, sym, _∙_}
 use mathlib.Core.Bool.{Bool, true, false}
 use mathlib.Core.List.{List}
 use native.Mathlib.Omega.{arith}
@@ -17,6 +17,9 @@ use Rattle.text.proofs.Writing.{join-length, fresh-text}
 use Rattle.text.proofs.Decimals.{decimal-length}
 use Rattle.text.proofs.Hexes.{hex-length}
 use Rattle.desync.specs.declared.DesyncReport.{DesyncReport}
+use Rattle.desync.specs.declared.Reported.{Reported}
+use Rattle.desync.specs.declared.WriteReport.{WriteReport}
+use Rattle.desync.specs.Asked.{WritesAs}
 use Rattle.desync.specs.Report.{dissentersOf, inputsAgree, isWitnessed}
 use Rattle.desync.specs.Json.{flagText, digestText, seatDigest, tickText, comma, seatList, peerText, peerList, headText, verdictText, ownText, listsText, agreedText, statsText, reportText}
 
@@ -160,3 +163,8 @@ module _ (r : DesyncReport) (h : Sized r) where
   -- so what is written is the text, whole
   pub report-whole : textOf (put freshText (reportText r)) ≡ reportText r
   report-whole = fresh-text (reportText r) (omega (arith, report-length))
+
+-- the promise fixes the answer and every lent byte: two that meet it are equal
+pub writes-one : {found : Reported} {out : List ℕ} {a b : WriteReport} {after other : List ℕ} → WritesAs found out a after → WritesAs found out b other
+    → (a ≡ b) × (after ≡ other)
+writes-one x y = (x .answered ∙ sym (y .answered), x .lent ∙ sym (y .lent))

@@ -1,7 +1,7 @@
 -- Laws of the lines: a step's fields row by row.
 -- Assumes nothing.
 use Prim.Native.Nat.{ℕ, zero, suc, _+_, _-_, _≤_, _<_, min}
-use mathlib.Core.Path.{_≡_, refl, sym}
+use mathlib.Core.Path.{_≡_, refl, sym, _∙_}
 use mathlib.Core.Bool.{Bool, true, false}
 use mathlib.Core.List.{List, [], _++_}
 use native.Mathlib.Numerals.{add-one}
@@ -11,7 +11,8 @@ use lib.Seq.{drop-cons, take-length, take-all}
 use Rattle.logic.proofs.Cases.{caseLt}
 use Rattle.text.proofs.Writing.{join-length}
 use Rattle.text.proofs.Decimals.{decimal-20}
-use Rattle.lines.specs.Lines.{numbered, flagText, fieldText, fieldTexts}
+use Rattle.text.specs.declared.Text.{Text}
+use Rattle.lines.specs.Lines.{Says, numbered, flagText, fieldText, fieldTexts}
 
 fields-nil : (count width : ℕ) → fieldTexts count width [] ≡ []
 unfolding fieldTexts
@@ -49,3 +50,7 @@ flag-one false = refl
 pub numbered-length : (name : List ℕ) (n : ℕ) → length name ≤ 16 → n < 256 → length (numbered name n) ≤ 100
 unfolding numbered
 numbered-length name n h l = rw join-length (omega (arith, decimal-20 n (omega arith)))
+
+-- the promise fixes the text: two that say a line are equal
+pub says-one : {line : List ℕ} {t u : Text} → Says line t → Says line u → t ≡ u
+says-one x y = x .wrote ∙ sym (y .wrote)

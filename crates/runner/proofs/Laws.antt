@@ -2,7 +2,7 @@
 -- a loop that runs the records at hand one by one, and keeps the rest, reads the script as the definition does.
 -- Assumes nothing.
 use Prim.Native.Nat.{ℕ, suc, _<_}
-use mathlib.Core.Path.{_≡_, refl}
+use mathlib.Core.Path.{_≡_, refl, sym, _∙_}
 use mathlib.Core.Bool.{Bool, true, false}
 use mathlib.Core.List.{List, [], _∷_, _++_, append-assoc, append-nil}
 use native.Mathlib.Omega.{arith}
@@ -14,7 +14,8 @@ use Rattle.logic.proofs.Cases.{if-true, if-false}
 use Rattle.session.specs.declared.Session.{Session}
 use Rattle.script.specs.Records.{recordSize}
 use Rattle.script.proofs.Laws.{part-before, whole-before}
-use Rattle.runner.specs.Runner.{runRecord, recordLines}
+use Rattle.runner.specs.declared.Ran.{Ran}
+use Rattle.runner.specs.Runner.{Prints, runRecord, recordLines}
 use Rattle.runner.specs.Script.{Reading, hold, takeIn, reading}
 
 pub reading-append : (traced : Bool) (r : Reading) (xs ys : List ℕ) → reading traced r (xs ++ ys) ≡ reading traced (reading traced r xs) ys
@@ -48,3 +49,7 @@ module _ (traced : Bool) (s : Session) (said bytes : List ℕ) where
       let last : take (suc n) bytes ≡ take n bytes ++ (getD bytes n 0 ∷ []) = take-suc bytes n 0 (omega (arith, at .2, e)) in
       let some : eqb (recordSize (take n bytes ++ (getD bytes n 0 ∷ []))) 0 ≡ false = rw (← last) (ne-eqb (recordSize (take (suc n) bytes)) 0 (λ z. absurd (omega (arith, z, rw e at (at .1))))) in
       rw (last, reading-append traced _ (take n bytes) (getD bytes n 0 ∷ []), reading-part traced s said (take n bytes) (at .0)) (if-false _ _ some)
+
+-- the promise of a record fixes the session and the text: two answers that meet it are equal
+pub prints-one : {s : Session} {lines : List ℕ} {r q : Ran} → Prints s lines r → Prints s lines q → (r .session ≡ q .session) × (r .line ≡ q .line)
+prints-one x y = (x .next ∙ sym (y .next), x .wrote ∙ sym (y .wrote))

@@ -163,7 +163,7 @@ impl Absorbed {
 }
 
 impl Window {
-    // The frames of one message, in order. It asks for a message of good form, which is why `session::deliver` is the entry and
+    // The frames of one message, in order. It asks for a message of good form, which is why `deliver::deliver` is the entry and
     // this is not.
     pub fn absorb_inputs(
         self,
