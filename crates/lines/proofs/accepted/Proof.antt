@@ -12,7 +12,7 @@ returns : tie.Need-returns
 unfolding acceptedText
 returns c =
     let a = c .before .before .before .answer .given in
-    (rw (a .1, put-join) (cc), rw (a .1, join-length) (omega (arith, decimal-20 (a .0 .0) (omega arith))))
+    (rw (a .1, put-join, c .decimal .ensures, c .before .byte .ensures), rw (a .1, join-length) (omega (arith, decimal-20 (a .0 .0) (omega arith))))
 
 returns-2 : tie.Need-returns-2
 unfolding acceptedText

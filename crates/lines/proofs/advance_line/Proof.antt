@@ -11,7 +11,7 @@ returns c = rw (c .before .before .answer .given .1) (c .step-line .ensures)
 
 returns-2 : tie.Need-returns-2
 unfolding advanceLine
-returns-2 c = rw (c .before .before .before .enum-told .given .1) (record { wrote = cc; fits = omega arith })
+returns-2 c = rw (c .before .before .before .enum-told .given .1) (record { wrote = rw (c .piece .ensures, c .before .before .new .ensures); fits = omega arith })
 
 returns-3 : tie.Need-returns-3
 unfolding advanceLine

@@ -8,7 +8,7 @@ use Rattle.lines.proofs.bad_line.Tie as tie
 
 returns : tie.Need-returns
 unfolding badLine
-returns c = record { wrote = cc; fits = omega arith }
+returns c = record { wrote = rw (c .piece .ensures, c .before .before .new .ensures); fits = omega arith }
 
 pub bad-line-spec : {M : Type 1} → statement M
 bad-line-spec = tie.close (tie.spec (search needs) (search needs) (search needs) returns)

@@ -26,7 +26,7 @@ returns c =
     let n : c .before .before .before .at-most .result ≡ min (a .width) (length (a .t2)) = rw long (c .before .before .before .at-most .ensures) in
     let head : take (c .before .before .before .at-most .result) (a .t2) ≡ take (a .width) (a .t2) = rw (n, take-min) in
     let few : length (take (a .width) (a .t2)) ≤ 16 = rw length-take (omega arith) in
-    (rw (put-join, ← head) (cc), rw (join-length, hex-bytes-length) (omega arith))
+    (rw (put-join, ← head, c .hex-bytes .ensures, c .before .before .byte .ensures), rw (join-length, hex-bytes-length) (omega arith))
 
 pub field-spec : {M : Type 1} → statement M
 field-spec = tie.close (tie.spec (search needs) (search needs) array-share-prefix-row slice-aggregate-hex-bytes (search needs) returns)

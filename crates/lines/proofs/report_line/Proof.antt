@@ -18,8 +18,7 @@ returns-3 : tie.Need-returns-3
 unfolding reportLine
 returns-3 c =
     let json = c .before .json .ensures in
-    let wrote = json .0 in
-    rw (c .before .before .enum-told3 .given .1) (record { wrote = rw put-join (cc); fits = rw join-length (omega (arith, json .1)) })
+    rw (c .before .before .enum-told3 .given .1) (record { wrote = rw (put-join, c .byte .ensures, json .0); fits = rw join-length (omega (arith, json .1)) })
 
 pub report-line-spec : {M : Type 1} → statement M
 report-line-spec =

@@ -19,7 +19,7 @@ returns-3 : tie.Need-returns-3
 unfolding bodyWhole
 returns-3 c =
     let b = c .before .before .before .before .body3 .given in
-    (rw (b .1, put-join) (cc), rw (b .1, join-length) (omega (arith, spaced-short (b .0 .0 .tick) (omega arith), spaced-short (b .0 .0 .state) (omega arith), spaced-short (b .0 .0 .input) (omega arith))))
+    (rw (b .1, put-join, c .spaced3 .ensures, c .before .spaced2 .ensures, c .before .before .spaced .ensures), rw (b .1, join-length) (omega (arith, spaced-short (b .0 .0 .tick) (omega arith), spaced-short (b .0 .0 .state) (omega arith), spaced-short (b .0 .0 .input) (omega arith))))
 
 returns-4 : tie.Need-returns-4
 unfolding bodyWhole
@@ -31,7 +31,7 @@ returns-5 : tie.Need-returns-5
 unfolding bodyWhole
 returns-5 c =
     let b = c .before .before .before .body5 .given in
-    (rw (b .1) (cc), rw (b .1) (omega (arith, spaced-short (b .0 .0) (omega arith))))
+    (rw (b .1, c .spaced5 .ensures, c .before .wide .ensures), rw (b .1) (omega (arith, spaced-short (b .0 .0) (omega arith))))
 
 pub body-whole-spec : {M : Type 1} → statement M
 body-whole-spec =

@@ -12,8 +12,7 @@ unfolding sentLine
 returns c =
     let a = c .before .before .before .before .before .answer .given in
     let body = c .before .message-whole .ensures in
-    let wrote = body .0 in
-    (rw (a .1, put-join) (cc), rw (a .1, join-length) (omega (arith, body .1)))
+    (rw (a .1, put-join, c .byte .ensures, body .0, c .before .before .piece .ensures), rw (a .1, join-length) (omega (arith, body .1)))
 
 returns-2 : tie.Need-returns-2
 unfolding sentLine
