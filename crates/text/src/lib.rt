@@ -5,7 +5,7 @@ ghost use Prim.Native.Nat.{_<_};
 ghost use lib.ListN.{length};
 ghost use Rattle.text.specs.Text.{textOf, freshText, put, Copies};
 ghost use Rattle.text.specs.Decimal.{decimal};
-ghost use Rattle.text.specs.Hex.{hexDigit, hex16, hexByte, hexBytes};
+ghost use Rattle.text.specs.Hex.{hexDigit, hex16, hexBytes};
 
 // The longest text.
 pub const LIMIT: usize = 2048;
@@ -59,12 +59,17 @@ impl Text {
         self
     }
 
+    // The bytes are stored here and not by `byte`: a call by value would copy the text for each of them.
     pub fn piece(mut self, s: &[u8]) -> Text
         ensures { λ r. ⌜ r ≡ put self (now (s .entry)) ⌝ }
     {
         let mut i = 0;
         while i < s.len() {
-            self = self.byte(s[i]);
+            let end = self.len;
+            if end < LIMIT {
+                self.bytes[end] = s[i];
+                self.len = end + 1;
+            }
             i += 1;
         }
         self
@@ -101,20 +106,25 @@ impl Text {
         self.piece(&d)
     }
 
-    // Two lower-case digits.
-    pub fn hex_byte(self, b: u8) -> Text
-        ensures { λ r. ⌜ r ≡ put self (hexByte b) ⌝ }
-    {
-        let n = wide(b);
-        self.byte(hex_digit(n / 16 % 16)).byte(hex_digit(n % 16))
-    }
-
+    // Two lower-case digits for each byte.
     pub fn hex_bytes(mut self, s: &[u8]) -> Text
         ensures { λ r. ⌜ r ≡ put self (hexBytes (now (s .entry))) ⌝ }
     {
         let mut i = 0;
         while i < s.len() {
-            self = self.hex_byte(s[i]);
+            let n = wide(s[i]);
+            let high = hex_digit(n / 16 % 16);
+            let first = self.len;
+            if first < LIMIT {
+                self.bytes[first] = high;
+                self.len = first + 1;
+            }
+            let low = hex_digit(n % 16);
+            let second = self.len;
+            if second < LIMIT {
+                self.bytes[second] = low;
+                self.len = second + 1;
+            }
             i += 1;
         }
         self
