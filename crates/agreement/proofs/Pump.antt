@@ -28,7 +28,8 @@ use Rattle.pump.specs.declared.Pumped.{Pumped}
 use Rattle.pump.specs.declared.Saying.{Saying}
 use Rattle.pump.specs.declared.Saying.the-variants.{Silent, Says}
 use Rattle.pump.specs.Pump.{inputsOf, digestOf, saying, quiet, passEnds, send, pump}
-use Rattle.pump.proofs.Laws.{Pumps, refused, ended, sends, pump-is, pump-moves, told, inputs-sent, message-sent}
+use Rattle.pump.proofs.Laws.{Pumps, refused, ended, sends, pump-is, pump-moves, told, message-sent}
+use Rattle.pump.proofs.Newest.{inputs-sent}
 use Rattle.logic.proofs.Cases.{byTest}
 use Rattle.agreement.specs.World.{Mail, runOn, mailed, pumpTurn}
 use Rattle.agreement.specs.Demand.{Pressed, Said}

@@ -1,3 +1,4 @@
 mod Loops
 pub mod Laws
+pub mod Newest
 mod Examples
