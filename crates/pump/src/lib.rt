@@ -109,14 +109,19 @@ fn next_remote(remotes: PeerSet, place: u8) -> Target
     Target::Nobody
 }
 
-// How many frames of the seat are held without a gap, from the newest back.
+// How many frames of the seat are held without a gap, from the newest back. The cells are looked at here and not by `holds`: a call by value
+// copies the window for each tick.
 fn span(w: Window, seat: u8, newest: u64) -> u8
     ensures { λ r. ⌜ r ≡ span w seat newest redundancy ⌝ }
 {
     let mut tick = newest;
     let mut n: u8 = 0;
     while n < wire::REDUNDANCY {
-        if !w.holds(seat, tick) {
+        let cell = peer::slot(tick);
+        if w.ticks[cell] != tick {
+            return n;
+        }
+        if !PeerSet(w.present[cell]).contains(seat) {
             return n;
         }
         n += 1;

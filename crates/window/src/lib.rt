@@ -118,7 +118,7 @@ impl Window {
 impl Absorbed {
     // One frame of a message, the body of the loop of `absorb_inputs`. Bytes that are held stand, so those of the message are
     // compared with them; where none are held the message's own stand, and are written.
-    fn absorb_one(self, pending: u64, seat: u8, tick: u64, bytes: &[u8]) -> Absorbed
+    fn absorb_one(mut self, pending: u64, seat: u8, tick: u64, bytes: &[u8]) -> Absorbed
         requires { ⌜ (seat < seats) × (length (now bytes) ≤ maxWidth) ⌝ }
         ensures { λ r. ⌜ r ≡ absorbOne self pending seat tick (now (bytes .entry)) ⌝ }
     {
@@ -148,17 +148,12 @@ impl Absorbed {
             };
         }
         if held {
-            return Absorbed {
-                repeated: logic::raise(self.repeated),
-                ..self
-            };
+            self.repeated = logic::raise(self.repeated);
+            return self;
         }
-        let next = w.write_frame(seat, tick, bytes);
-        Absorbed {
-            window: next,
-            wrote: true,
-            ..self
-        }
+        self.window = w.write_frame(seat, tick, bytes);
+        self.wrote = true;
+        self
     }
 }
 

@@ -42,7 +42,7 @@ low c =
 -- a turn writes two digits, the upper one first
 turn : (c : tie.Joined2 Inv-loop μ-loop)
     → let at = c .before .before .before .before .before .before .before in
-      c .if2 .self ≡ put (at .loop .self) (hexByte (getD (at .before .before .args .s .now) (at .loop .i) 0))
+    c .if2 .self ≡ put (at .loop .self) (hexByte (getD (at .before .before .args .s .now) (at .loop .i) 0))
 unfolding hexDigits
 turn c =
     let one = c .before .before in

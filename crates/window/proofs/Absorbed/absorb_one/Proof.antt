@@ -40,8 +40,8 @@ returns-3 c = rw (decided (c .before .before), not-true (c .before .before .same
 returns-4 : tie.Need-returns-4
 unfolding if_then_else_
 returns-4 c =
-    let at = c .before .before .before .before in
-    rw (decided at, not-false (at .same .result) (c .before .before .before .if3 .left), c .before .before .if4 .taken, c .before .raise .ensures)
+    let at = c .before .before .before in
+    rw (decided at, not-false (at .same .result) (c .before .before .if3 .left), c .before .if4 .taken, c .raise .ensures)
 
 returns-5 : tie.Need-returns-5
 unfolding if_then_else_
