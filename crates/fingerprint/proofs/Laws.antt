@@ -1,18 +1,17 @@
 -- The cells of fingerprints: where each print is kept, what is found after one is stored, and what judging says of what is found.
 -- Assumes nothing.
-use Prim.Native.Nat.{ℕ, zero, suc, _<_, _≤_, suc-le-suc}
+use Prim.Native.Nat.{ℕ, _<_, _≤_}
 use mathlib.Core.Path.{_≡_, refl, sym}
 use mathlib.Core.Logic.{_≢_}
 use mathlib.Core.Bool.{Bool, true, false, not, true≢false}
 use native.Mathlib.Omega.{arith}
-use native.Mathlib.Nat.{zero-lt-suc}
 use lib.ListN.{length, length-set, getD-replicate, List·getD-eq-default}
 use lib.Seq.{set-out, getD-set-same, getD-set-other}
 use borrow.Author.Tests.{eq-eqb, eqb-true, eqb-false, not-true, not-false}
-use Rattle.logic.proofs.Cases.{byTest, decide, caseEq, caseLt, if-true, if-false, or-neither}
-use Rattle.peer.specs.Seats.{seats, has, every}
+use Rattle.logic.proofs.Cases.{byTest, caseEq, caseLt, if-true, if-false, or-neither}
+use Rattle.peer.specs.Seats.{seats, has}
 use Rattle.peer.specs.Cells.{history, digestSlotOf}
-use Rattle.peer.proofs.Loops.{every-at}
+use Rattle.peer.proofs.Loops.{every-at, every-fails}
 use Rattle.fingerprint.specs.declared.Fingerprint.{Fingerprint}
 use Rattle.fingerprint.specs.declared.Fingerprints.{Fingerprints}
 use Rattle.fingerprint.specs.declared.Cell.{Cell}
@@ -192,17 +191,6 @@ unfolding ownFor own withRemote
 ownFor-remote p k f t = rw (cellAt-stored-other p (remoteCell k (f .tick)) f (ownCell t) (own-remote-apart t k (f .tick)))
 
 -- ---- judging
-
--- a test that does not hold of every seat fails at one
-every-fails : (w : ℕ) (p : ℕ → Bool) → every w p ≡ false → record { seat : ℕ; low : seat < w; is : p seat ≡ false }
-unfolding every
-every-fails zero p e = absurd (true≢false e)
-every-fails (suc w) p e =
-    decide (p 0)
-    (λ y.
-    let r = every-fails w (λ j. p (suc j)) (rw y at e) in
-    record { seat = suc (r .seat); low = suc-le-suc (r .low); is = r .is })
-    (λ n. record { seat = 0; low = zero-lt-suc w; is = n })
 
 denied : (state : ℕ) (c : Cell) → agrees state c ≡ false → record { print : Fingerprint; is : c ≡ Holds print; apart : print .state ≢ state }
 unfolding agrees

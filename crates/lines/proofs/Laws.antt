@@ -6,8 +6,8 @@ use mathlib.Core.Bool.{Bool, true, false}
 use mathlib.Core.List.{List, [], _++_}
 use native.Mathlib.Numerals.{add-one}
 use native.Mathlib.Omega.{arith}
-use lib.ListN.{length, take, drop, getD, drop-of-length-le}
-use lib.Seq.{drop-cons, take-length, take-all}
+use lib.ListN.{length, drop, getD, drop-of-length-le}
+use lib.Seq.{drop-cons}
 use Rattle.logic.proofs.Cases.{caseLt}
 use Rattle.text.proofs.Writing.{join-length}
 use Rattle.text.proofs.Decimals.{decimal-20}
@@ -35,12 +35,6 @@ module _ (count width : ℕ) (rows : List (List ℕ)) (k : ℕ) where
       caseLt k count
       (λ l. let all : length rows ≤ k = omega arith in rw (drop-of-length-le rows all, fields-nil))
       (λ l. let none : count - k ≡ 0 = omega arith in rw none)
-
-pub take-min : (n : ℕ) (xs : List ℕ) → take (min n (length xs)) xs ≡ take n xs
-take-min n xs =
-    caseLt n (length xs)
-    (λ l. let e : min n (length xs) ≡ n = omega arith in rw e)
-    (λ l. let e : min n (length xs) ≡ length xs = omega arith in rw (e, take-length) (sym (take-all n xs l)))
 
 pub flag-one : (on : Bool) → length (flagText on) ≡ 1
 unfolding flagText

@@ -1,5 +1,5 @@
 // The lines that the script runner prints: one for each answer, and what the trace form adds. Nothing here reads a session.
-ghost use Prim.Native.Nat.{_≤_, min};
+ghost use Prim.Native.Nat.{_≤_};
 ghost use mathlib.Core.Path.{_≡_};
 ghost use lib.ListN.{length};
 ghost use Rattle.text.specs.Text.{put};
@@ -7,6 +7,9 @@ ghost use Rattle.lines.specs.Lines.{Says, numbered, flagText, outcomeTex
 use deliver::Delivery;
 use desync::DesyncReport;
 use desync::Sought;
+use logic::least;
+use logic::long;
+use logic::wide;
 use params::Validity;
 use pump::Outbound;
 use rows::Frames;
@@ -19,28 +22,12 @@ use session::Submit;
 use text::Text;
 use wire::Body;
 
-fn wide(x: u8) -> u64
-    ensures { λ r. ⌜ r ≡ x ⌝ }
-{
-    x as u64
-}
-
-fn at_most(n: u8, most: usize) -> usize
-    ensures { λ r. ⌜ r ≡ min n most ⌝ }
-{
-    let m = n as usize;
-    if m < most {
-        return m;
-    }
-    most
-}
-
 // A name and a number.
 fn numbered(name: &[u8], n: u8) -> Text
     requires { ⌜ length (now name) ≤ 16 ⌝ }
     ensures { λ r. ⌜ Says (numbered (now (name .entry)) n) r ⌝ }
 {
-    Text::new().piece(name).decimal(wide(n)).byte(b'\n')
+    Text::new().piece(name).decimal(long(n)).byte(b'\n')
 }
 
 pub fn flag(t: Text, on: bool) -> Text
@@ -60,7 +47,7 @@ pub fn outcome(t: Text, o: Outcome) -> Text
     match o {
         Outcome::Desynced { tick } => t.piece(b"1 - ").decimal(tick),
         Outcome::PeerLeft { peer, tick } => {
-            t.piece(b"2 ").decimal(wide(peer)).byte(b' ').decimal(tick)
+            t.piece(b"2 ").decimal(long(peer)).byte(b' ').decimal(tick)
         }
         Outcome::LeftLocally { tick } => t.piece(b"3 - ").decimal(tick),
     }
@@ -98,7 +85,7 @@ fn accepted(t: Text, answer: Submit) -> Text
 pub fn submit_line(answer: Submit) -> Text
     ensures { λ r. ⌜ Says (submitLine answer) r ⌝ }
 {
-    let number = Text::new().piece(b"submit ").decimal(wide(answer.number()));
+    let number = Text::new().piece(b"submit ").decimal(long(answer.number()));
     accepted(number, answer).byte(b'\n')
 }
 
@@ -163,7 +150,7 @@ fn body(t: Text, body: Body) -> Text
             t.piece(b"4 ")
                 .decimal(b.first)
                 .byte(b' ')
-                .decimal(wide(b.count))
+                .decimal(long(b.count))
         }
         Body::Digest(b) => t.piece(b"5 ").decimal(b.tick).piece(b" 0"),
         Body::Bye(b) => t.piece(b"6 ").decimal(b.tick).piece(b" 0"),
@@ -179,7 +166,7 @@ pub fn send_line(answer: Outbound) -> Text
         Outbound::Send { peer, message } => {
             let b = message.body;
             body(
-                Text::new().piece(b"send ").decimal(wide(peer)).byte(b' '),
+                Text::new().piece(b"send ").decimal(long(peer)).byte(b' '),
                 b,
             ).byte(b'\n')
         }
@@ -193,7 +180,7 @@ fn field(t: Text, row: [u8; 16], width: u8) -> Text
     ensures { λ r. ⌜ r ≡ put t (fieldText width row) ⌝ }
     ensures { λ _. ⌜ length (fieldText width row) ≤ 33 ⌝ }
 {
-    let n = at_most(width, 16);
+    let n = least(wide(width), 16);
     t.byte(b' ').hex_bytes(&row[..n])
 }
 
@@ -201,7 +188,7 @@ fn fields(t: Text, rows: [[u8; 16]; rows::ROWS], count: u8, width: u8) -> Text
     ensures { λ r. ⌜ r ≡ put t (fieldTexts count width rows) ⌝ }
     ensures { λ _. ⌜ length (fieldTexts count width rows) ≤ 264 ⌝ }
 {
-    let n = at_most(count, rows::ROWS);
+    let n = least(wide(count), rows::ROWS);
     let mut out = t;
     let mut k: usize = 0;
     while k < n {

@@ -1,6 +1,6 @@
-// Sums that stop at their ends, and a test of a range: the small arithmetic that every layer uses.
+// Sums that stop at their ends, a test of a range, the lesser of two, and a byte in a wider type: the small arithmetic that every layer uses.
 ghost use mathlib.Core.Path.{_≡_};
-ghost use Prim.Native.Nat.{_-_};
+ghost use Prim.Native.Nat.{_-_, min};
 ghost use Rattle.logic.specs.Saturating.{raised, sum};
 ghost use Rattle.logic.specs.Range.{outside};
 
@@ -43,4 +43,28 @@ pub fn is_outside(n: u8, low: u8, high: u8) -> bool
         return true;
     }
     high < n
+}
+
+// A cast asks for the fact that the number fits wherever it stands. Here it asks once, and a caller has an equation to rewrite by.
+pub fn wide(x: u8) -> usize
+    ensures { λ r. ⌜ r ≡ x ⌝ }
+{
+    x as usize
+}
+
+// As `wide`, to a u64.
+pub fn long(x: u8) -> u64
+    ensures { λ r. ⌜ r ≡ x ⌝ }
+{
+    x as u64
+}
+
+// A number has no method `min`: this is the `min` of the definitions.
+pub fn least(a: usize, b: usize) -> usize
+    ensures { λ r. ⌜ r ≡ min a b ⌝ }
+{
+    if a < b {
+        return a;
+    }
+    b
 }

@@ -1,4 +1,4 @@
--- Both sides of each limit of 11 to 16, computed from the definitions: one table under a single proof.
+-- Examples at both sides of each limit of 11 to 16 and of which refusal goes first, computed from the definitions.
 -- Assumes nothing.
 use mathlib.Core.Path.{_≡_, refl}
 use mathlib.Core.List.{List, [], _∷_}

@@ -12,9 +12,9 @@ pub const MIN_PEERS: u8 = 2;
 pub const MAX_WIDTH: u8 = 16;
 
 // The longest delay, and the number that the refusal of a longer one carries: a delay is below the window.
-pub const MAX_DELAY: u8 = 63;
+pub const MAX_DELAY: u8 = (peer::WINDOW - 1) as u8;
 
-pub const INPUT_WINDOW: u32 = 64;
+pub const INPUT_WINDOW: u32 = peer::WINDOW as u32;
 
 // What the agreement starts with, so that players of another version of it disagree by number.
 const VERSION: u32 = 3;

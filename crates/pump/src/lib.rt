@@ -15,6 +15,7 @@ ghost use Rattle.pump.specs.Numbers.{outboundNo};
 ghost use Rattle.pump.specs.declared.Outbound.the-variants.{Nothing};
 ghost use Rattle.pump.specs.Pump.{quiet, nextRemote, span, carried, runFrom, runOf, helloOf, inputsOf, digestOf, saying, addressed, say, isOwed, firstKind, passEnds, runBeside, send, pumpDigest, pumpInputs, pumpHello, pumpBye, pumpFrom, pump};
 use fingerprint::Cell;
+use logic::wide;
 use params::SessionParams;
 use peer::PeerSet;
 use session::Emit;
@@ -76,12 +77,6 @@ impl Outbound {
             Outbound::BadState => 20,
         }
     }
-}
-
-fn wide(x: u8) -> usize
-    ensures { λ r. ⌜ r ≡ x ⌝ }
-{
-    x as usize
 }
 
 // An answer with no run.

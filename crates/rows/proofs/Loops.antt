@@ -8,7 +8,7 @@ use native.Mathlib.Numerals.{add-one}
 use native.Mathlib.Omega.{arith}
 use lib.Dec.{ltb}
 use lib.ListN.{length, getD, take, drop, length-take, drop-of-length-le, List·getD-eq-default}
-use lib.Seq.{drop-cons, getD-take, getD-drop, take-all, take-length}
+use lib.Seq.{drop-cons, getD-take, getD-drop}
 use borrow.Author.Tests.{ltb-true, ltb-false}
 use Rattle.logic.specs.Test.{if_then_else_}
 use Rattle.logic.proofs.Cases.{byTest, caseLt}
@@ -29,13 +29,6 @@ pub take-if : (on : Bool) (width : ℕ) (xs : List ℕ) → take (if on then wid
 unfolding if_then_else_
 take-if true width xs = refl
 take-if false width xs = refl
-
--- the front of a list, at a number past its end too
-pub take-min : (n : ℕ) (xs : List ℕ) → take (min n (length xs)) xs ≡ take n xs
-take-min n xs =
-    caseLt n (length xs)
-    (λ l. let e : min n (length xs) ≡ n = omega arith in rw e)
-    (λ l. let e : min n (length xs) ≡ length xs = omega arith in rw (e, take-length) (sym (take-all n xs l)))
 
 heads-nil : (count width : ℕ) → heads count width [] ≡ []
 unfolding heads

@@ -1,6 +1,6 @@
 // A step's frames, as eight rows of sixteen bytes by value, and what a step hashes.
 ghost use mathlib.Core.Path.{_≡_};
-ghost use Prim.Native.Nat.{_+_, _≤_, min};
+ghost use Prim.Native.Nat.{_+_, _≤_};
 ghost use lib.ListN.{take, drop};
 ghost use Rattle.logic.specs.Test.{if_then_else_};
 ghost use Rattle.hash.specs.Fnv.{fnv};
@@ -8,6 +8,8 @@ ghost use Rattle.params.specs.Params.{maxWidth};
 ghost use Rattle.window.specs.Window.{ringBytes};
 ghost use Rattle.rows.specs.Rows.{laid, padded, rowsOf, stepDigest};
 use hash::StateHash;
+use logic::least;
+use logic::wide;
 use window::Window;
 
 // One for each seat.
@@ -30,12 +32,6 @@ pub fn rows_in(frames: Frames) -> [[u8; 16]; ROWS]
     frames.rows
 }
 
-fn wide(x: u8) -> usize
-    ensures { λ r. ⌜ r ≡ x ⌝ }
-{
-    x as usize
-}
-
 // n where the test holds, else 0.
 fn kept_if(on: bool, n: u8) -> u8
     ensures { λ r. ⌜ r ≡ if on then n else 0 ⌝ }
@@ -44,15 +40,6 @@ fn kept_if(on: bool, n: u8) -> u8
         return n;
     }
     0
-}
-
-fn least(a: usize, b: usize) -> usize
-    ensures { λ r. ⌜ r ≡ min a b ⌝ }
-{
-    if a < b {
-        return a;
-    }
-    b
 }
 
 // The first width of the sixteen bytes at `at`, then zeros.

@@ -1,9 +1,11 @@
 // The script that a session is driven by: where a record ends, and what it asks. Nothing here reads a session.
-ghost use Prim.Native.Nat.{_+_, _*_, _^_, _<_, _≤_, min};
+ghost use Prim.Native.Nat.{_+_, _*_, _^_, _<_, _≤_};
 ghost use mathlib.Core.Path.{_≡_};
 ghost use lib.ListN.{length, getD};
 ghost use Rattle.script.specs.Records.{le, longest, recordSize, rightLength, paramsFrom, bodyFrom, messageFrom, callFrom, asked, restStart, restOf};
 use logic::is_outside;
+use logic::least;
+use logic::long;
 use params::SessionParams;
 use wire::Body;
 use wire::ByeBody;
@@ -45,21 +47,6 @@ fn byte_at(s: &[u8], at: usize) -> u8
     0
 }
 
-fn wide(x: u8) -> u64
-    ensures { λ r. ⌜ r ≡ x ⌝ }
-{
-    x as u64
-}
-
-fn least(a: usize, b: usize) -> usize
-    ensures { λ r. ⌜ r ≡ min a b ⌝ }
-{
-    if a < b {
-        return a;
-    }
-    b
-}
-
 // A little-endian number of n bytes.
 fn le(s: &[u8], at: usize, n: usize) -> u64
     requires { ⌜ (n ≤ 8) × (at + n ≤ 65535) ⌝ }
@@ -70,7 +57,7 @@ fn le(s: &[u8], at: usize, n: usize) -> u64
     let mut i = n;
     while i > 0 {
         i -= 1;
-        value = wide(byte_at(s, at + i)) + value * 256;
+        value = long(byte_at(s, at + i)) + value * 256;
     }
     value
 }

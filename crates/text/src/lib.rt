@@ -21,12 +21,6 @@ pub enum Copied {
     NoRoom,
 }
 
-fn wide(x: u8) -> u64
-    ensures { λ r. ⌜ r ≡ x ⌝ }
-{
-    x as u64
-}
-
 // The digit of a number below 16.
 fn hex_digit(d: u64) -> u8
     requires { ⌜ d < 16 ⌝ }
@@ -112,7 +106,7 @@ impl Text {
     {
         let mut i = 0;
         while i < s.len() {
-            let n = wide(s[i]);
+            let n = logic::long(s[i]);
             let high = hex_digit(n / 16 % 16);
             let first = self.len;
             if first < LIMIT {

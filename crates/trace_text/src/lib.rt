@@ -7,6 +7,9 @@ ghost use Rattle.lines.specs.Lines.{Says};
 ghost use Rattle.trace_text.specs.Trace.{spaced, helloWhole, inputsWhole, bodyWhole, messageWhole, sentLine, sendLines, standingText, countersText, stateLine};
 use lines::flag;
 use lines::outcome;
+use logic::least;
+use logic::long;
+use logic::wide;
 use pump::Outbound;
 use session::Standing;
 use stats::SessionStats;
@@ -15,12 +18,6 @@ use wire::Body;
 use wire::HelloBody;
 use wire::InputsBody;
 use wire::Message;
-
-fn wide(x: u8) -> u64
-    ensures { λ r. ⌜ r ≡ x ⌝ }
-{
-    x as u64
-}
 
 // A number after a blank.
 fn spaced(t: Text, n: u64) -> Text
@@ -37,18 +34,14 @@ fn hello_whole(t: Text, b: HelloBody) -> Text
         spaced(spaced(spaced(t, b.agreement), b.content), b.rules),
         b.seed,
     );
-    let seated = spaced(spaced(named, wide(b.count)), wide(b.width));
-    spaced(spaced(seated, wide(b.delay)), wide(b.period))
+    let seated = spaced(spaced(named, long(b.count)), long(b.width));
+    spaced(spaced(seated, long(b.delay)), long(b.period))
 }
 
 fn run_size(count: u8, width: u8) -> usize
     ensures { λ r. ⌜ r ≡ min (count * width) 128 ⌝ }
 {
-    let n = count as usize * width as usize;
-    if n < pump::RUN {
-        return n;
-    }
-    pump::RUN
+    least(wide(count) * wide(width), pump::RUN)
 }
 
 fn inputs_whole(t: Text, b: InputsBody, run: [u8; pump::RUN]) -> Text
@@ -56,7 +49,7 @@ fn inputs_whole(t: Text, b: InputsBody, run: [u8; pump::RUN]) -> Text
     ensures { λ _. ⌜ length (inputsWhole b run) ≤ 320 ⌝ }
 {
     let n = run_size(b.count, b.width);
-    let head = spaced(spaced(spaced(t, b.first), wide(b.count)), wide(b.width));
+    let head = spaced(spaced(spaced(t, b.first), long(b.count)), long(b.width));
     head.byte(b' ').hex_bytes(&run[..n])
 }
 
@@ -70,7 +63,7 @@ fn body_whole(t: Text, body: Body, run: [u8; pump::RUN]) -> Text
         Body::Inputs(b) => inputs_whole(t, b, run),
         Body::Digest(b) => spaced(spaced(spaced(t, b.tick), b.state), b.input),
         Body::Bye(b) => spaced(t, b.tick),
-        Body::Other(kind) => spaced(t, wide(kind)),
+        Body::Other(kind) => spaced(t, long(kind)),
     }
 }
 
@@ -79,7 +72,7 @@ fn message_whole(t: Text, m: Message, run: [u8; pump::RUN]) -> Text
     ensures { λ _. ⌜ length (messageWhole m run) ≤ 384 ⌝ }
 {
     let body = m.body;
-    body_whole(spaced(t.decimal(wide(m.sender)), m.session), body, run)
+    body_whole(spaced(t.decimal(long(m.sender)), m.session), body, run)
 }
 
 // The trace form of a message that went out; nothing where none did.

@@ -1,4 +1,5 @@
--- Document 01's cases at both sides of the window's limits, P2 to P6, and the slips that it excludes: one table under a single proof.
+-- Examples at both sides of the window's limits, and of the slips that document 01 excludes, computed from the definitions. P2 to P6 stand
+-- here as one message does them; the cases themselves are proved in the crate `cases`.
 -- Assumes nothing.
 use Prim.Native.Nat.{ℕ}
 use mathlib.Core.Path.{_≡_, refl}

@@ -9,6 +9,7 @@ ghost use Rattle.wire.specs.Wire.{inputsForm};
 ghost use Rattle.wire.specs.declared.Form.the-variants.{Good};
 ghost use Rattle.window.specs.Window.{ringBytes, frameStart, freshWindow, heldBy, isHeld, standing, writeFrame};
 ghost use Rattle.window.specs.Absorb.{absorbOne, absorbInputs};
+use logic::wide;
 use peer::PeerSet;
 use wire::InputsBody;
 
@@ -34,12 +35,6 @@ pub struct Absorbed {
     pub repeated: u64,
     pub note: Note,
     pub wrote: bool,
-}
-
-fn wide(x: u8) -> usize
-    ensures { λ r. ⌜ r ≡ x ⌝ }
-{
-    x as usize
 }
 
 // Where the frame of a seat and a tick starts in the ring.

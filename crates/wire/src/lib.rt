@@ -3,6 +3,7 @@
 ghost use mathlib.Core.Path.{_≡_};
 ghost use Rattle.wire.specs.Wire.{helloForm, inputsForm, otherForm, formOf, reasonNo};
 use logic::is_outside;
+use logic::wide;
 
 // How many frames an Inputs carries at most: the newest and seven before it.
 pub const REDUNDANCY: u8 = 8;
@@ -128,12 +129,6 @@ impl HelloBody {
         }
         Form::Good
     }
-}
-
-fn wide(x: u8) -> usize
-    ensures { λ r. ⌜ r ≡ x ⌝ }
-{
-    x as usize
 }
 
 impl InputsBody {

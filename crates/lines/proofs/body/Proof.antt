@@ -15,7 +15,7 @@ returns-2 : tie.Need-returns-2
 unfolding bodyText
 returns-2 c =
     let b = c .before .before .before .before .before .before .before .body .given in
-    (rw (b .1, put-join, c .decimal2 .ensures, c .before .wide .ensures, c .before .before .byte .ensures, c .before .before .before .decimal .ensures, c .before .before .before .before .piece2 .ensures), rw (b .1, join-length) (omega (arith, decimal-20 (b .0 .0 .first) (omega arith), decimal-20 (b .0 .0 .count) (omega arith))))
+    (rw (b .1, put-join, c .decimal2 .ensures, c .before .long .ensures, c .before .before .byte .ensures, c .before .before .before .decimal .ensures, c .before .before .before .before .piece2 .ensures), rw (b .1, join-length) (omega (arith, decimal-20 (b .0 .0 .first) (omega arith), decimal-20 (b .0 .0 .count) (omega arith))))
 
 returns-3 : tie.Need-returns-3
 unfolding bodyText

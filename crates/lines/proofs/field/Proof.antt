@@ -5,10 +5,10 @@ use native.Mathlib.Omega.{arith}
 use borrow.Author.Needs.{needs}
 use lib.ListN.{length, take, length-take}
 use lib.Seq.{length-take-le}
+use Rattle.logic.proofs.Fronts.{take-min}
 use Rattle.text.proofs.Writing.{put-join, join-length}
 use Rattle.text.proofs.Hexes.{hex-bytes-length}
 use Rattle.lines.specs.Lines.{fieldText}
-use Rattle.lines.proofs.Laws.{take-min}
 use Rattle.lines.proofs.field.Statement.{statement}
 use Rattle.lines.proofs.field.Tie as tie
 
@@ -21,12 +21,13 @@ slice-aggregate-hex-bytes c = sym (length-take-le _ _ (omega arith))
 returns : tie.Need-returns
 unfolding fieldText
 returns c =
-    let a = c .before .before .before .before .args in
+    let sized = c .before .before .before in
+    let a = sized .before .before .args in
     let long : length (a .t2) ≡ 16 = search needs in
-    let n : c .before .before .before .at-most .result ≡ min (a .width) (length (a .t2)) = rw long (c .before .before .before .at-most .ensures) in
-    let head : take (c .before .before .before .at-most .result) (a .t2) ≡ take (a .width) (a .t2) = rw (n, take-min) in
+    let n : sized .least .result ≡ min (a .width) (length (a .t2)) = rw (long, ← sized .before .wide .ensures) (sized .least .ensures) in
+    let head : take (sized .least .result) (a .t2) ≡ take (a .width) (a .t2) = rw (n, take-min) in
     let few : length (take (a .width) (a .t2)) ≤ 16 = rw length-take (omega arith) in
     (rw (put-join, ← head, c .hex-bytes .ensures, c .before .before .byte .ensures), rw (join-length, hex-bytes-length) (omega arith))
 
 pub field-spec : {M : Type 1} → statement M
-field-spec = tie.close (tie.spec (search needs) (search needs) array-share-prefix-row slice-aggregate-hex-bytes (search needs) returns)
+field-spec = tie.close (tie.spec (search needs) (search needs) (search needs) array-share-prefix-row slice-aggregate-hex-bytes (search needs) returns)

@@ -27,7 +27,7 @@ loop-holds c = (search needs, rw sub-zero, rw sub-zero (omega arith))
 loop-again : tie.Need-loop-again Inv-loop μ-loop
 loop-again c =
     let at = c .before .before .before .loop in
-    let a = c .before .before .before .before .before .args in
+    let a = c .before .before .before .before .before .before .args in
     let row = fields-row (a .count) (a .width) (a .t2) (at .k) (omega arith) (omega arith) in
     let rest = fieldTexts (a .count - (at .k + 1)) (a .width) (drop (at .k + 1) (a .t2)) in
     let longer : length (fieldTexts (a .count - at .k) (a .width) (drop (at .k) (a .t2))) ≤ 33 + length rest = rw (row, length-append) (omega (arith, c .field .ensures .1)) in (
@@ -39,7 +39,7 @@ loop-again c =
 returns : tie.Need-returns Inv-loop μ-loop
 returns c =
     let at = c .before .loop in
-    let a = c .before .before .before .args in
+    let a = c .before .before .before .before .args in
     let long : length (a .t2) ≡ 8 = search needs in
     let done : fieldTexts (a .count - at .k) (a .width) (drop (at .k) (a .t2)) ≡ [] = fields-end (a .count) (a .width) (a .t2) (at .k) (rw long (omega arith)) in
     (sym (put-nil _) ∙ rw done at (at .inv .1), omega (arith, rw done at (at .inv .2)))
@@ -47,4 +47,4 @@ returns c =
 pub fields-spec : {M : Type 1} → statement M
 fields-spec =
     tie.close
-    (tie.spec Inv-loop μ-loop (search needs) loop-holds (search needs) (search needs) (search needs) (search needs) (search needs) loop-again returns)
+    (tie.spec Inv-loop μ-loop (search needs) (search needs) loop-holds (search needs) (search needs) (search needs) (search needs) (search needs) loop-again returns)

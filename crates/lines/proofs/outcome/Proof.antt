@@ -17,7 +17,7 @@ returns-2 : tie.Need-returns-2
 unfolding outcomeText
 returns-2 c =
     let o = c .before .before .before .before .before .before .before .o2 .given in
-    (rw (o .1, put-join, c .decimal3 .ensures, c .before .byte .ensures, c .before .before .decimal2 .ensures, c .before .before .before .wide .ensures, c .before .before .before .before .piece2 .ensures), rw (o .1, join-length) (omega (arith, decimal-20 (o .0 .0) (omega arith), decimal-20 (o .0 .1 .0) (omega arith))))
+    (rw (o .1, put-join, c .decimal3 .ensures, c .before .byte .ensures, c .before .before .decimal2 .ensures, c .before .before .before .long .ensures, c .before .before .before .before .piece2 .ensures), rw (o .1, join-length) (omega (arith, decimal-20 (o .0 .0) (omega arith), decimal-20 (o .0 .1 .0) (omega arith))))
 
 returns-3 : tie.Need-returns-3
 unfolding outcomeText

@@ -22,7 +22,7 @@ returns c =
     let a = c .before .before .before .before .before .before .before .before .before .answer .given in
     let body = c .before .body .ensures in
     let few = short c in
-    (record { wrote = rw (a .1, put-join, c .byte2 .ensures, body .0, c .before .before .byte .ensures, c .before .before .before .decimal .ensures, c .before .before .before .before .wide .ensures, c .before .before .before .before .before .piece .ensures, c .before .before .before .before .before .before .before .new .ensures); fits = omega (arith, few) }, few)
+    (record { wrote = rw (a .1, put-join, c .byte2 .ensures, body .0, c .before .before .byte .ensures, c .before .before .before .decimal .ensures, c .before .before .before .before .long .ensures, c .before .before .before .before .before .piece .ensures, c .before .before .before .before .before .before .before .new .ensures); fits = omega (arith, few) }, few)
 
 returns-2 : tie.Need-returns-2
 unfolding sendLine

@@ -5,8 +5,8 @@ use native.Mathlib.Omega.{arith}
 use borrow.Author.Needs.{needs}
 use lib.ListN.{length}
 use lib.Seq.{length-take-le}
+use Rattle.logic.proofs.Fronts.{take-min}
 use Rattle.params.specs.Params.{maxWidth}
-use Rattle.rows.proofs.Loops.{take-min}
 use Rattle.rows.proofs.absorb_head.Statement.{statement}
 use Rattle.rows.proofs.absorb_head.Tie as tie
 

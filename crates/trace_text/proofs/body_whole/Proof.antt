@@ -31,7 +31,7 @@ returns-5 : tie.Need-returns-5
 unfolding bodyWhole
 returns-5 c =
     let b = c .before .before .before .body5 .given in
-    (rw (b .1, c .spaced5 .ensures, c .before .wide .ensures), rw (b .1) (omega (arith, spaced-short (b .0 .0) (omega arith))))
+    (rw (b .1, c .spaced5 .ensures, c .before .long .ensures), rw (b .1) (omega (arith, spaced-short (b .0 .0) (omega arith))))
 
 pub body-whole-spec : {M : Type 1} → statement M
 body-whole-spec =

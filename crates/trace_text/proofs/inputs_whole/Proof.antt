@@ -5,9 +5,9 @@ use native.Mathlib.Omega.{arith}
 use borrow.Author.Needs.{needs}
 use lib.ListN.{length, take, length-take}
 use lib.Seq.{length-take-le}
+use Rattle.logic.proofs.Fronts.{take-min}
 use Rattle.text.proofs.Writing.{put-join, join-length}
 use Rattle.text.proofs.Hexes.{hex-bytes-length}
-use Rattle.lines.proofs.Laws.{take-min}
 use Rattle.trace_text.specs.Trace.{inputsWhole}
 use Rattle.trace_text.proofs.Laws.{spaced-short}
 use Rattle.trace_text.proofs.inputs_whole.Statement.{statement}
@@ -38,9 +38,9 @@ returns c =
         c .hex-bytes .ensures,
         c .before .before .byte .ensures,
         three .spaced3 .ensures,
-        three .before .wide2 .ensures,
+        three .before .long2 .ensures,
         three .before .before .spaced2 .ensures,
-        three .before .before .before .wide .ensures,
+        three .before .before .before .long .ensures,
         three .before .before .before .before .spaced .ensures,
       ),
       rw (join-length, hex-bytes-length) (omega (

@@ -1,17 +1,15 @@
 -- `trace_text::run_size` meets its contract. Assumes nothing.
 use native.Mathlib.Omega.{arith}
-use Rattle.trace_text.proofs.Laws.{area}
+use borrow.Author.Needs.{needs}
+use Rattle.logic.proofs.Products.{mul-lt-pow}
 use Rattle.trace_text.proofs.run_size.Statement.{statement}
 use Rattle.trace_text.proofs.run_size.Tie as tie
 
-mul-n : tie.Need-mul-n
-mul-n c = omega (arith, area (c .args .count) (c .args .width) (omega arith) (omega arith))
+mul-least : tie.Need-mul-least
+mul-least c = record { fits = mul-lt-pow 32 (omega arith) (omega arith) }
 
 returns : tie.Need-returns
-returns c = omega arith
-
-returns-2 : tie.Need-returns-2
-returns-2 c = omega arith
+returns c = rw (← c .before .wide2 .ensures, ← c .before .before .wide .ensures) (c .least .ensures)
 
 pub run-size-spec : {M : Type 1} → statement M
-run-size-spec = tie.close (tie.spec mul-n returns returns-2)
+run-size-spec = tie.close (tie.spec (search needs) (search needs) mul-least (search needs) returns)

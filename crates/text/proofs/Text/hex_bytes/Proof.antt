@@ -46,7 +46,7 @@ turn : (c : tie.Joined2 Inv-loop μ-loop)
 unfolding hexDigits
 turn c =
     let one = c .before .before in
-    low c ∙ rw (put-two, high one, c .before .hex-digit2 .ensures, one .before .hex-digit .ensures, one .before .before .wide .ensures)
+    low c ∙ rw (put-two, high one, c .before .hex-digit2 .ensures, one .before .hex-digit .ensures, one .before .before .long .ensures)
 
 loop-again : tie.Need-loop-again Inv-loop μ-loop
 loop-again c =
