@@ -3,6 +3,8 @@
 //! `oracle < script` prints one line a record, as `circle` must.
 //! `oracle --trace < script` prints in addition, while a session exists, the
 //! message that a pump sent (`> `) and what the session shows (`= `).
+//! `oracle --carried < script` prints for each record the call, the number and
+//! every value that the answer carries, as the program `carried` must.
 //!
 //! The session is driven through its own front door: a record becomes a
 //! datagram by the published writer and goes into `deliver`, and what comes
@@ -10,6 +12,8 @@
 //! and writers cannot say (a seat above 7, session 0 in a message, any
 //! malformed message) is not for this program to judge: it prints `outside`
 //! and leaves the session alone.
+
+mod carried;
 
 use std::io::{self, BufWriter, Read, Write};
 use std::num::NonZeroU64;
@@ -34,17 +38,26 @@ const LEAVE: u16 = 10;
 const PUMP: u16 = 11;
 const REPORT: u16 = 12;
 
+/// What is printed.
+#[derive(Clone, Copy, PartialEq)]
+enum Form {
+    Plain,
+    Trace,
+    Carried,
+}
+
 fn main() -> ExitCode {
     let arguments: Vec<String> = std::env::args().skip(1).collect();
-    let trace = match arguments.iter().map(String::as_str).collect::<Vec<_>>()[..] {
-        [] => false,
-        ["--trace"] => true,
+    let form = match arguments.iter().map(String::as_str).collect::<Vec<_>>()[..] {
+        [] => Form::Plain,
+        ["--trace"] => Form::Trace,
+        ["--carried"] => Form::Carried,
         _ => {
-            eprintln!("usage: oracle [--trace] < script");
+            eprintln!("usage: oracle [--trace | --carried] < script");
             return ExitCode::from(2);
         }
     };
-    match run(trace) {
+    match run(form) {
         Ok(()) => ExitCode::SUCCESS,
         Err(error) => {
             eprintln!("oracle: {error}");
@@ -53,7 +66,8 @@ fn main() -> ExitCode {
     }
 }
 
-fn run(trace: bool) -> io::Result<()> {
+fn run(form: Form) -> io::Result<()> {
+    let trace = form == Form::Trace;
     let mut script = Vec::new();
     io::stdin().lock().read_to_end(&mut script)?;
     let mut out = BufWriter::new(io::stdout().lock());
@@ -62,7 +76,11 @@ fn run(trace: bool) -> io::Result<()> {
     while !rest.is_empty() {
         if let Some((kind, payload, after)) = record(rest) {
             rest = after;
-            answer(&mut session, kind, payload, trace, &mut out)?;
+            if form == Form::Carried {
+                carried::answer(&mut session, kind, payload, &mut out)?;
+            } else {
+                answer(&mut session, kind, payload, trace, &mut out)?;
+            }
         } else {
             rest = &[];
             writeln!(out, "cut")?;
@@ -134,7 +152,7 @@ fn answer(
                 *session = Some(Box::new(opened));
                 0
             }
-            Err(number) => number,
+            Err((number, _)) => number,
         };
         return writeln!(out, "open {number}");
     }
@@ -174,12 +192,13 @@ fn answer(
     }
 }
 
-/// A new session, or the number of the first check that refuses it.
+/// A new session, or the number of the first check that refuses it and what
+/// that refusal carries.
 ///
 /// The Rust settles a local seat above 7 and session 0 by its types, so there
 /// it is asked with a seat and a session that the types can say, and the
 /// check that they stand for is made here, in its place among the others.
-fn open(fields: &mut Fields) -> Result<Session, u8> {
+fn open(fields: &mut Fields) -> Result<Session, (u8, Vec<u64>)> {
     let [peer_count, local, input_bytes, input_delay, digest_period] =
         std::array::from_fn(|_| fields.u8());
     let [seed, content, rules, session] = std::array::from_fn(|_| fields.u64());
@@ -197,14 +216,22 @@ fn open(fields: &mut Fields) -> Result<Session, u8> {
         session: token.unwrap_or(NonZeroU64::MIN),
     };
     match params.validate() {
-        Err(ParamsError::PeerCount { .. }) => Err(11),
-        _ if seat.is_none() => Err(12),
-        Err(ParamsError::LocalNotInRoster { .. }) => Err(12),
-        Err(ParamsError::InputBytes { .. }) => Err(13),
-        Err(ParamsError::InputDelay { .. }) => Err(14),
-        Err(ParamsError::DigestPeriodZero) => Err(15),
+        Err(ParamsError::PeerCount {
+            saw,
+            floor,
+            ceiling,
+        }) => Err((11, vec![saw.into(), floor.into(), ceiling.into()])),
+        _ if seat.is_none() => Err((12, vec![local.into(), peer_count.into()])),
+        Err(ParamsError::LocalNotInRoster { local, peer_count }) => {
+            Err((12, vec![local.into(), peer_count.into()]))
+        }
+        Err(ParamsError::InputBytes { saw, ceiling }) => {
+            Err((13, vec![saw.into(), ceiling.into()]))
+        }
+        Err(ParamsError::InputDelay { saw, window }) => Err((14, vec![saw.into(), window.into()])),
+        Err(ParamsError::DigestPeriodZero) => Err((15, vec![])),
         Err(_) => unreachable!("a refusal that document 01 does not know"),
-        Ok(_) if token.is_none() => Err(16),
+        Ok(_) if token.is_none() => Err((16, vec![])),
         Ok(valid) => Ok(Session::new(valid)),
     }
 }

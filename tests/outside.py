@@ -1,12 +1,13 @@
 #!/usr/bin/env python3
 """Scripts outside the Rust's domain, and a program held against rules.py on them.
 
-    python3 tests/outside.py --program 'CMD' [--count K] [--seed N] [--trace]
-    python3 tests/outside.py --write DIRECTORY [--count K] [--seed N] [--trace]
+    python3 tests/outside.py --program 'CMD' [--count K] [--seed N] [--trace | --carried]
+    python3 tests/outside.py --write DIRECTORY [--count K] [--seed N] [--trace | --carried]
 
 The first runs CMD on every script (standard input) and compares what it prints
 with rules.py, line by line; the first difference is shown and the exit status
-is 1. `--trace` compares the trace form instead; CMD must then print that form.
+is 1. `--trace` compares the trace form instead, `--carried` the values that the
+answers carry; CMD must then print that form.
 `--keep FILE` saves the script that showed the difference. The second writes
 each script with the lines expected of it.
 
@@ -541,11 +542,11 @@ def show_record(number, kind, payload):
     return f"record {number}, kind {kind}, payload {shorten(payload.hex()) or 'empty'}"
 
 
-def first_difference(script, found, trace=False):
+def first_difference(script, found, form=rules.PLAIN):
     """What differs first, in words; None where nothing does."""
     found_lines = found.split(b"\n")
     at = 0
-    for number, (kind, payload, lines) in enumerate(rules.run(script, trace)):
+    for number, (kind, payload, lines) in enumerate(rules.run(script, form)):
         for line in lines:
             # Only a line that a newline ends counts as printed.
             got = found_lines[at] if at + 1 < len(found_lines) else None
@@ -579,23 +580,23 @@ def run_program(program, script):
     return done.stdout, killed
 
 
-def compare(program, scripts, trace=False):
+def compare(program, scripts, form=rules.PLAIN):
     """`(name, script, words)` of the first difference, or the number of scripts."""
     number = 0
     for number, (name, script) in enumerate(scripts, 1):
         found, killed = run_program(program, script)
-        words = [killed, first_difference(script, found, trace)]
+        words = [killed, first_difference(script, found, form)]
         if any(words):
             return name, script, "\n".join(filter(None, words))
     return number
 
 
-def write_all(directory, scripts, trace=False):
+def write_all(directory, scripts, form=rules.PLAIN):
     directory.mkdir(parents=True, exist_ok=True)
     for number, (name, script) in enumerate(scripts):
         stem = f"{number:04} {name}".replace(",", "").replace(" ", "-")
         (directory / f"{stem}.script").write_bytes(script)
-        (directory / f"{stem}.lines").write_text(rules.text(script, trace), newline="\n")
+        (directory / f"{stem}.lines").write_text(rules.text(script, form), newline="\n")
 
 
 def main(arguments):
@@ -604,16 +605,19 @@ def main(arguments):
     parser.add_argument("--write", type=pathlib.Path, help="directory for scripts and lines")
     parser.add_argument("--count", type=int, default=100, help="random plays (default 100)")
     parser.add_argument("--seed", type=int, default=1, help="default 1")
-    parser.add_argument("--trace", action="store_true", help="compare the trace form")
+    form = parser.add_mutually_exclusive_group()
+    for name, what in (rules.TRACE, "the trace form"), (rules.CARRIED, "the values carried"):
+        form.add_argument(
+            name, dest="form", action="store_const", const=name, default=rules.PLAIN, help=f"compare {what}")
     parser.add_argument("--keep", type=pathlib.Path, help="file for the script that differs")
     options = parser.parse_args(arguments)
     if options.program is None and options.write is None:
         parser.error("one of --program and --write is needed")
     if options.write is not None:
-        write_all(options.write, all_scripts(options.seed, options.count), options.trace)
+        write_all(options.write, all_scripts(options.seed, options.count), options.form)
     if options.program is None:
         return 0
-    result = compare(options.program, all_scripts(options.seed, options.count), options.trace)
+    result = compare(options.program, all_scripts(options.seed, options.count), options.form)
     if isinstance(result, int):
         print(f"seed {options.seed}: {result} scripts, no difference")
         return 0

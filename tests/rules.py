@@ -8,6 +8,7 @@ commit, pump and report, the script runner.
 
     python3 tests/rules.py < script > lines
     python3 tests/rules.py --trace < script > lines
+    python3 tests/rules.py --carried < script > lines
 
 Every call takes a session and gives `(answer, next session)`. The session that
 was passed in is never changed; a call that changes nothing gives back that
@@ -102,21 +103,25 @@ class Params(NamedTuple):
     session: int
 
 
-def params_refusal(params):
+def params_answer(params):
     """11 to 16, the lowest that applies; 0 when all is well."""
     if params.count not in COUNTS:
-        return PEER_COUNT
+        return Answer(PEER_COUNT, "", (params.count, min(COUNTS), max(COUNTS)))
     if params.local >= params.count:
-        return LOCAL_NOT_IN_ROSTER
+        return Answer(LOCAL_NOT_IN_ROSTER, "", (params.local, params.count))
     if params.width not in WIDTHS:
-        return INPUT_BYTES
+        return Answer(INPUT_BYTES, "", (params.width, max(WIDTHS)))
     if params.delay > MAX_DELAY:
-        return INPUT_DELAY
+        return Answer(INPUT_DELAY, "", (params.delay, WINDOW))
     if params.period == 0:
-        return DIGEST_PERIOD_ZERO
+        return Answer(DIGEST_PERIOD_ZERO)
     if params.session == 0:
-        return SESSION_ZERO
-    return DONE
+        return Answer(SESSION_ZERO)
+    return Answer(DONE)
+
+
+def params_refusal(params):
+    return params_answer(params).number
 
 
 def agreement(params):
@@ -224,7 +229,8 @@ class Answer(NamedTuple):
       report: the text's length; from advance: "waiting", or "step" with tick,
       due and eight rows, or "stalled" with tick, missing seats and count
     - 1: the outcome
-    - 21: the reason; 27, 28, 30: the tick; 51: the expected tick
+    - 21: the reason and what it carries
+    - of any other refusal: the values of the Rust enum's variant, in its order
     """
 
     number: int
@@ -232,29 +238,37 @@ class Answer(NamedTuple):
     values: tuple = ()
 
 
-def malformed_reason(message):
-    """The lowest reason that fits the kind and applies; 0 when well formed."""
+def malformed(message):
+    """The lowest reason that fits the kind and applies, with what it carries;
+    None when well formed."""
     reasons = [
-        (1, message.sender >= SEATS),
-        (2, message.session == 0),
+        (1, message.sender >= SEATS, (message.sender, SEATS)),
+        (2, message.session == 0, ()),
     ]
     if isinstance(message, Hello):
         reasons += [
-            (3, message.count not in COUNTS),
-            (4, message.width not in WIDTHS),
-            (5, message.delay > MAX_DELAY),
-            (6, message.period == 0),
+            (3, message.count not in COUNTS, (message.count, min(COUNTS), max(COUNTS))),
+            (4, message.width not in WIDTHS, (message.width, max(WIDTHS))),
+            (5, message.delay > MAX_DELAY, (message.delay, WINDOW)),
+            (6, message.period == 0, ()),
         ]
     elif isinstance(message, Inputs):
+        declared, actual = message.count * message.width, len(message.run)
         reasons += [
-            (4, message.width not in WIDTHS),
-            (7, message.count not in FRAME_COUNTS),
-            (8, len(message.run) != message.count * message.width),
-            (9, message.first + message.count > U64_MAX),
+            (4, message.width not in WIDTHS, (message.width, max(WIDTHS))),
+            (7, message.count not in FRAME_COUNTS, (message.count, max(FRAME_COUNTS))),
+            (8, actual != declared, (declared, actual)),
+            (9, message.first + message.count > U64_MAX, (message.first, message.count)),
         ]
     elif isinstance(message, Other):
-        reasons += [(10, message.kind not in OTHER_KINDS)]
-    return next((reason for reason, broken in reasons if broken), 0)
+        reasons += [(10, message.kind not in OTHER_KINDS, (message.kind,))]
+    return next(((reason, *values) for reason, broken, values in reasons if broken), None)
+
+
+def malformed_reason(message):
+    """The reason's number; 0 when well formed."""
+    found = malformed(message)
+    return found[0] if found else 0
 
 
 # --- The session record ------------------------------------------------------
@@ -335,10 +349,8 @@ class Session:
 
 def open_session(params):
     """`(answer, session)`, with None for the session where 11 to 16 refuses."""
-    refusal = params_refusal(params)
-    if refusal:
-        return Answer(refusal), None
-    return Answer(DONE), Session(params)
+    answer = params_answer(params)
+    return answer, Session(params) if answer.number == DONE else None
 
 
 def is_bad(session):
@@ -443,9 +455,9 @@ def submit(session, frame):
     if has_outcome(session):
         return ended(session), session
     if len(frame) != session.params.width:
-        return Answer(SUBMIT_WRONG_WIDTH), session
+        return Answer(SUBMIT_WRONG_WIDTH, "", (len(frame), session.params.width)), session
     if minus(session.next_local, session.pending) >= WINDOW:
-        return Answer(WINDOW_FULL), session
+        return Answer(WINDOW_FULL, "", (session.next_local, session.pending)), session
     after = session.copy()
     tick = after.next_local
     write_frame(after, tick, after.params.local, frame)
@@ -468,12 +480,12 @@ def deliver(session, source, message):
 
 def take(session, source, message):
     """What deliver does to its own copy."""
-    reason = malformed_reason(message)
+    reason = malformed(message)
     if reason:
-        return refuse(session, MALFORMED, reason)
+        return refuse(session, MALFORMED, *reason)
     refusal = header_refusal(session, source, message)
     if refusal:
-        return refuse(session, refusal)
+        return refuse(session, *refusal)
     if isinstance(message, Hello):
         return take_hello(session, message)
     if isinstance(message, Inputs):
@@ -482,26 +494,28 @@ def take(session, source, message):
         return take_digest(session, message)
     if isinstance(message, Bye):
         return take_bye(session, message)
-    return refuse(session, NOT_SESSION_TRAFFIC)
+    return refuse(session, NOT_SESSION_TRAFFIC, message.kind)
 
 
 def header_refusal(session, source, message):
-    """22 to 25, the lowest that applies; 0 when all is well."""
+    """22 to 25, the lowest that applies, with what it carries; None when all is
+    well."""
     if message.session != session.params.session:
-        return WRONG_SESSION
+        return WRONG_SESSION, message.session
     if message.sender != source:
-        return SENDER_NOT_SOURCE
+        return SENDER_NOT_SOURCE, message.sender, source
     if message.sender == session.params.local:
-        return FROM_SELF
+        return (FROM_SELF,)
     if message.sender >= session.params.count:
-        return NOT_IN_ROSTER
-    return DONE
+        return NOT_IN_ROSTER, message.sender
+    return None
 
 
 def take_hello(session, message):
     """The number decides alone; the other fields only explain it."""
-    if message.agreement != agreement(session.params):
-        return refuse(session, DISAGREEMENT)
+    ours = agreement(session.params)
+    if message.agreement != ours:
+        return refuse(session, DISAGREEMENT, message.agreement, ours)
     session.hello_marks = with_seat(session.hello_marks, message.sender)
     start_if_ready(session)
     return Answer(DONE)
@@ -511,13 +525,13 @@ def take_inputs(session, message):
     # Before 27 to 30, so that a refused message marks its sender too.
     session.playing_marks = with_seat(session.playing_marks, message.sender)
     if message.width != session.params.width:
-        return refuse(session, WRONG_WIDTH)
+        return refuse(session, WRONG_WIDTH, message.width, session.params.width)
     note, written = None, False
     for index in range(message.count):
         tick = message.first + index
         frame = message.run[index * message.width : (index + 1) * message.width]
-        number, wrote = take_frame(session, message.sender, tick, frame)
-        note = (number, tick) if number else note
+        noted, wrote = take_frame(session, message.sender, tick, frame)
+        note = noted or note
         written = written or wrote
     if note is None:
         return Answer(DONE)
@@ -527,18 +541,19 @@ def take_inputs(session, message):
 
 
 def take_frame(session, seat, tick, frame):
-    """`(note, written)` for one frame; a note of 0 is none."""
+    """`(note, written)` for one frame; a note is a refusal's number and what it
+    carries, or None."""
     if tick < session.pending:
-        return DONE, False
+        return None, False
     if tick - session.pending >= WINDOW:
-        return OUT_OF_WINDOW, False
+        return (OUT_OF_WINDOW, tick, session.pending), False
     if is_held(session, tick, seat):
         if frame_at(session, tick, seat) != frame:
-            return CONTRADICTION, False
+            return (CONTRADICTION, seat, tick), False
         raise_counter(session, "frames_repeated")
-        return DONE, False
+        return None, False
     write_frame(session, tick, seat, frame)
-    return DONE, True
+    return None, True
 
 
 def take_digest(session, message):
@@ -548,7 +563,7 @@ def take_digest(session, message):
     held = held_fingerprint(cells, message.tick)
     if held.present:
         if (held.state, held.input) != (new.state, new.input):
-            return refuse(session, DIGEST_CONTRADICTION, message.tick)
+            return refuse(session, DIGEST_CONTRADICTION, message.sender, message.tick)
         return Answer(DONE)  # an equal repeat is not judged again
     cells[message.tick % FINGERPRINTS] = new
     judge(session, message.tick)
@@ -610,11 +625,11 @@ def commit(session, tick, digest):
         return Answer(BAD_STATE), session
     step = session.step
     if not step.present:
-        return Answer(OUT_OF_ORDER, "", (session.pending,)), session
+        return Answer(OUT_OF_ORDER, "", (tick, session.pending)), session
     if step.tick != tick:
-        return Answer(OUT_OF_ORDER, "", (step.tick,)), session
+        return Answer(OUT_OF_ORDER, "", (tick, step.tick)), session
     if bool(step.due) != (digest is not None):
-        return Answer(DIGEST_MISMATCH), session
+        return Answer(DIGEST_MISMATCH, "", (tick, bool(step.due))), session
     after = session.copy()
     after.step = Step()
     after.pending = plus(after.pending, 1)
@@ -987,6 +1002,90 @@ class Circle:
         return lines + ["= " + session_fields(self.session)]
 
 
+# What a lent buffer holds before a report. A report is ASCII, so each byte that
+# it writes is another.
+UNTOUCHED = 0xAA
+
+
+class Carried(Circle):
+    """The same calls. A line is the call, the number and every value that the
+    answer carries."""
+
+    def open(self, payload):
+        answer, session = open_session(Params(*OPEN_LAYOUT.unpack(payload)))
+        if session is not None:
+            self.session = session
+        return call_fields("open", answer)
+
+    def submit(self, payload):
+        answer, self.session = submit(self.session, payload)
+        return call_fields("submit", answer)
+
+    def deliver(self, kind, payload):
+        answer, self.session = deliver(self.session, *read_message(kind, payload))
+        return call_fields("deliver", answer)
+
+    def advance(self):
+        answer, self.session = advance(self.session)
+        if answer.number != DONE:
+            return call_fields("advance", answer)
+        values = answer.values
+        if answer.word == "step":
+            # The rows stand beside the step; it says how much of them means something.
+            values = (*values[:2], self.session.params.count, self.session.params.width)
+        return " ".join(["advance", str(DONE), answer.word, *value_fields(values)])
+
+    def commit(self, payload):
+        tick, flag, digest = COMMIT_LAYOUT.unpack(payload)
+        answer, self.session = commit(self.session, tick, digest if flag else None)
+        return call_fields("commit", answer)
+
+    def leave(self):
+        answer, self.session = leave(self.session)
+        return call_fields("leave", answer)
+
+    def pump(self):
+        answer, self.session = pump(self.session)
+        if answer.number != DONE:
+            return call_fields("pump", answer)
+        seat, message = answer.values
+        kind = KIND_OF[type(message)]
+        # An Inputs' run stands beside the message.
+        numbers = [field for field in message if not isinstance(field, bytes)]
+        return call_fields("pump", Answer(DONE, "", (seat, kind, *numbers)))
+
+    def report(self):
+        """In the largest buffer, in one that is a byte too short for the text and
+        in one that just holds it."""
+        large, length = self.report_in(TEXT_MAX)
+        short, _ = self.report_in(minus(length, 1))
+        exact, _ = self.report_in(length)
+        return " ".join(["report", *large, *short, *exact])
+
+    def report_in(self, room):
+        """Number, length where it was written and how many bytes changed; and that
+        length, 0 where nothing was written."""
+        lent = bytearray([UNTOUCHED]) * room
+        answer, self.session = report(self.session, lent)
+        changed = sum(byte != UNTOUCHED for byte in lent)
+        fields = value_fields((answer.number, *answer.values, changed))
+        return fields, sum(answer.values)
+
+
+KIND_OF = {Hello: HELLO, Inputs: INPUTS, Digest: DIGEST, Bye: BYE}
+
+
+def call_fields(name, answer):
+    if answer.number == ENDED:
+        return f"{name} {ENDED} {outcome_fields(answer.values)}"
+    return " ".join([name, *value_fields((answer.number, *answer.values))])
+
+
+def value_fields(values):
+    """Whole numbers; a truth value is 0 or 1."""
+    return [str(int(value)) for value in values]
+
+
 def outcome_fields(outcome):
     seat = outcome.seat if outcome.why == PEER_LEFT else "-"
     return f"{outcome.why} {seat} {outcome.tick}"
@@ -1017,27 +1116,31 @@ def session_fields(session):
     return " ".join(map(str, numbers)) + " " + outcome
 
 
-def run(script, trace=False):
+PLAIN, TRACE, CARRIED = "", "--trace", "--carried"
+
+
+def run(script, form=PLAIN):
     """For each record of the script, `(kind, payload, lines)`."""
-    circle = Circle()
+    circle = Carried() if form == CARRIED else Circle()
     for kind, payload in records(script):
         lines = [circle.line(kind, payload)]
-        if trace:
+        if form == TRACE:
             lines += circle.trace()
         yield kind, payload, lines
 
 
-def text(script, trace=False):
+def text(script, form=PLAIN):
     """The whole output for a script."""
-    return "".join(line + "\n" for _, _, lines in run(script, trace) for line in lines)
+    return "".join(line + "\n" for _, _, lines in run(script, form) for line in lines)
 
 
 def main(arguments):
-    if arguments not in ([], ["--trace"]):
-        sys.stderr.write("usage: rules.py [--trace] < script > lines\n")
+    form = " ".join(arguments)
+    if form not in (PLAIN, TRACE, CARRIED):
+        sys.stderr.write("usage: rules.py [--trace | --carried] < script > lines\n")
         return 2
     script = sys.stdin.buffer.read()
-    for _, _, lines in run(script, trace=bool(arguments)):
+    for _, _, lines in run(script, form):
         sys.stdout.write("".join(line + "\n" for line in lines))
     return 0
 

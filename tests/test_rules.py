@@ -218,8 +218,8 @@ report 61
 
 
 class Runner(unittest.TestCase):
-    def lines(self, *script, trace=False):
-        return rules.text(b"".join(script), trace).splitlines()
+    def lines(self, *script, form=rules.PLAIN):
+        return rules.text(b"".join(script), form).splitlines()
 
     def test_case_r(self):
         self.assertEqual(rules.text(CASE_R), CASE_R_LINES)
@@ -321,7 +321,7 @@ class Runner(unittest.TestCase):
             "cut",
             f"= 0 0 0 0 0 0 1 1 1 1 {step} 0 - 0",
         ]
-        self.assertEqual(self.lines(*script[:12], trace=True), expected)
+        self.assertEqual(self.lines(*script[:12], form=rules.TRACE), expected)
         del script[11]
         tail = [
             "deliver 21",
@@ -331,14 +331,97 @@ class Runner(unittest.TestCase):
             "ended 2 1 3",
             f"= 1 0 0 0 0 0 1 1 0 0 {step} 2 1 3",
         ]
-        self.assertEqual(self.lines(*script, trace=True)[-6:], tail)
+        self.assertEqual(self.lines(*script, form=rules.TRACE)[-6:], tail)
+
+    def carried(self, *script):
+        """The lines after those of a circle of three that plays, with a step out at tick 0."""
+        before = outside.situations()["stepped"]
+        lines = self.lines(before, *script, form=rules.CARRIED)
+        return lines[len(list(rules.records(before))) :]
+
+    def test_carried_open(self):
+        refused = [
+            (TWO._replace(count=9, local=12), "open 11 9 2 8"),
+            (TWO._replace(local=200), "open 12 200 2"),
+            (TWO._replace(width=17), "open 13 17 16"),
+            (TWO._replace(delay=65), "open 14 65 64"),
+            (TWO._replace(period=0), "open 15"),
+            (TWO._replace(session=0), "open 16"),
+        ]
+        records, expected = zip(*refused)
+        self.assertEqual(self.carried(*map(open_record, records)), list(expected))
+
+    def test_carried_calls(self):
+        playing = outside.PARAMS
+        hello = outside.good_hello(playing, 2)
+        inputs = Inputs(2, 9, 0, 1, 2, b"xy")
+        digest = Digest(2, 9, 3, 4, 5)
+        steps = [
+            (submit_record(b"a"), "submit 41 1 2"),
+            (message_record(2, hello._replace(session=8)), "deliver 22 8"),
+            (message_record(0, hello), "deliver 23 2 0"),
+            (message_record(1, hello._replace(sender=1)), "deliver 24"),
+            (message_record(3, hello._replace(sender=3)), "deliver 25 3"),
+            (message_record(2, hello._replace(agreement=1)), f"deliver 26 1 {hello.agreement}"),
+            (message_record(2, inputs._replace(first=64)), "deliver 27 64 0"),
+            (message_record(2, inputs._replace(run=b"xz")), "deliver 28 2 0"),
+            (message_record(2, inputs._replace(width=1, run=b"x")), "deliver 29 1 2"),
+            (message_record(2, digest), "deliver 0"),
+            (message_record(2, digest._replace(state=6)), "deliver 30 2 3"),
+            (message_record(2, Other(2, 9, 3)), "deliver 31 3"),
+            (commit_record(7, 1, 77), "commit 51 7 0"),
+            (commit_record(0, 0, 0), "commit 52 0 1"),
+            (ADVANCE, "advance 0 waiting"),
+            (commit_record(0, 1, 77), "commit 0"),
+            (ADVANCE, "advance 0 stalled 1 5 1"),
+            (commit_record(4, 0, 0), "commit 51 4 1"),
+            (PUMP, f"pump 0 0 3 1 9 {hello.agreement} 6 7 5 3 2 1 2"),
+            (PUMP, f"pump 0 2 3 1 9 {hello.agreement} 6 7 5 3 2 1 2"),
+            (PUMP, "pump 0 0 4 1 9 0 2 2"),
+            (REPORT, "report 61 0 61 0 61 0"),
+            *((submit_record(b"cc"), f"submit 0 {tick}") for tick in range(2, 65)),
+            (submit_record(b"cc"), "submit 42 65 1"),
+            (message_record(2, Bye(2, 9, 8)), "deliver 1 2 2 8"),
+            (submit_record(b"cc"), "submit 1 2 2 8"),
+            (ADVANCE, "advance 1 2 2 8"),
+            (LEAVE, "leave 1 2 2 8"),
+        ]
+        records, expected = zip(*steps)
+        self.assertEqual(self.carried(*records), list(expected))
+
+    def test_carried_reasons(self):
+        hello, inputs = outside.good_hello(outside.PARAMS, 2), Inputs(2, 9, 0, 1, 2, b"xy")
+        malformed = [
+            (hello._replace(sender=9), "1 9 8"),
+            (hello._replace(session=0), "2"),
+            (hello._replace(count=1), "3 1 2 8"),
+            (hello._replace(width=0), "4 0 16"),
+            (inputs._replace(width=17), "4 17 16"),
+            (hello._replace(delay=70), "5 70 64"),
+            (hello._replace(period=0), "6"),
+            (inputs._replace(count=9), "7 9 8"),
+            (inputs._replace(count=3), "8 6 2"),
+            (inputs._replace(first=U64_MAX), f"9 {U64_MAX} 1"),
+            (Other(2, 9, 5), "10 5"),
+        ]
+        records = [message_record(2, message) for message, _ in malformed]
+        self.assertEqual(self.carried(*records), [f"deliver 21 {reason}" for _, reason in malformed])
+
+    def test_carried_report(self):
+        """A buffer that is a byte too short is left as it was."""
+        parted = [commit_record(0, 1, 77), message_record(2, Digest(2, 9, 0, 78, 1))]
+        (text,) = self.lines(outside.situations()["stepped"], *parted, REPORT)[-1:]
+        written = f"0 {len(text)} {len(text)}"
+        expected = ["commit 0", "deliver 1 1 - 0", f"report {written} 62 0 {written}"]
+        self.assertEqual(self.carried(*parted, REPORT), expected)
 
     def test_any_bytes_at_all(self):
         rng = random.Random(1)
         for _ in range(300):
             size = rng.randrange(60)
             script = bytes(rng.choice((0, 0, 0, 1, 2, 8, 9, 255)) for _ in range(size))
-            rules.text(script, trace=True)
+            for form in (rules.TRACE, rules.CARRIED):
+                rules.text(script, form)
 
 
 # --- Deliveries --------------------------------------------------------------
@@ -500,7 +583,7 @@ class Window(unittest.TestCase):
         grown = playing(TWO)
         grown.inputs(1, 0, b"B")
         self.assertEqual(grown.inputs(1, 0, b"x"), 28)
-        self.assertEqual(grown.answer.values, (0,))
+        self.assertEqual(grown.answer.values, (1, 0))
         grown.advance()
         self.assertEqual(grown.answer.values[2][1][:1], b"B")
 
@@ -518,7 +601,7 @@ class Window(unittest.TestCase):
         grown.inputs(1, 63, b"B")
         # Contradicted at 62, repeated at 63, out of the window at 64 and 65.
         self.assertEqual(grown.inputs(1, 62, b"x", b"B", b"C", b"C"), 27)
-        self.assertEqual(grown.answer.values, (65,))
+        self.assertEqual(grown.answer.values, (65, 0))
         expected = {"datagrams_refused": 1, "frames_out_of_window": 1, "frames_repeated": 1}
         self.assertEqual(grown.counted(), expected)
 
@@ -641,12 +724,12 @@ class Steps(unittest.TestCase):
     def test_out_of_order(self):
         grown = playing(TWO)
         self.assertEqual(grown.commit(0, 1), 51)
-        self.assertEqual(grown.answer.values, (0,))
+        self.assertEqual(grown.answer.values, (0, 0))
         grown.inputs(1, 0, b"B")
         grown.advance()
         before = grown.session
         self.assertEqual(grown.commit(1), 51)  # before 52
-        self.assertEqual(grown.answer.values, (0,))
+        self.assertEqual(grown.answer.values, (1, 0))
         self.assertIs(grown.session, before)
 
     def test_stall_count(self):
@@ -1172,7 +1255,7 @@ class ByHand(unittest.TestCase):
         session = playing(TWO).session
         session.pending, session.step = 10, Step(True, 99, True)
         answer, _ = rules.commit(session, 10, 5)
-        self.assertEqual((answer.number, answer.values), (51, (99,)))
+        self.assertEqual((answer.number, answer.values), (51, (10, 99)))
         self.assertEqual(rules.commit(session, 99, None)[0].number, 52)
         answer, after = rules.commit(session, 99, 5)
         self.assertEqual((answer.number, after.pending), (0, 11))
@@ -1412,7 +1495,8 @@ class Outside(unittest.TestCase):
         scripts = self.some_scripts()
         right = self.program(HERE / "rules.py")
         self.assertEqual(outside.compare(right, scripts), len(scripts))
-        self.assertEqual(outside.compare(right + " --trace", scripts, True), len(scripts))
+        for form in (rules.TRACE, rules.CARRIED):
+            self.assertEqual(outside.compare(f"{right} {form}", scripts, form), len(scripts))
 
     def test_differences_are_found(self):
         source = (HERE / "rules.py").read_text()
@@ -1429,12 +1513,31 @@ class Outside(unittest.TestCase):
             self.assertIn("expected deliver 21\n  found    deliver 0", told.getvalue())
             self.assertNotEqual(kept.read_bytes(), b"")
 
+    def test_a_wrong_value_is_found(self):
+        source = (HERE / "rules.py").read_text()
+        right = "return NOT_IN_ROSTER, message.sender"
+        self.assertIn(right, source)
+        with tempfile.TemporaryDirectory() as directory:
+            wrong = pathlib.Path(directory) / "wrong.py"
+            wrong.write_text(source.replace(right, "return NOT_IN_ROSTER, source + 1"))
+            program = f"{self.program(wrong)} {rules.CARRIED}"
+            script = outside.situations()["playing"] + message_record(3, Bye(3, KEY, 0))
+            _, _, words = outside.compare(program, [("a stranger", script)], rules.CARRIED)
+        self.assertIn("expected deliver 25 3\n  found    deliver 25 4", words)
+
     def test_first_difference(self):
         script = open_record(TWO) + ADVANCE
         self.assertIsNone(outside.first_difference(script, b"open 0\nwaiting\n"))
         for found in (b"", b"open 0\n", b"open 0\nwaiting", b"open 0\nwaiting\n\n"):
             self.assertIsNotNone(outside.first_difference(script, found), found)
         self.assertIn("line 2", outside.first_difference(script, b"open 0\nwait\n"))
+
+    def test_fixed_lists(self):
+        """The Rust's stored answers, which tools/fixed made, are the rules' too."""
+        for crate, form in ("trace", rules.TRACE), ("carried", rules.CARRIED):
+            files = HERE.parent / "crates" / crate
+            found = rules.text((files / "stdin").read_bytes(), form)
+            self.assertTrue(found == (files / "stdout").read_text(), crate)
 
 
 if __name__ == "__main__":
