@@ -10,7 +10,6 @@ use deliver::Delivery;
 use deliver::Refusal;
 use desync::WriteReport;
 use libc::STDIN_FILENO;
-use libc::STDOUT_FILENO;
 use params::SessionParams;
 use params::Validity;
 use pump::Outbound;
@@ -427,12 +426,6 @@ fn answer(s: Session, record: &[u8]) -> Answered {
 
 // ---- reading and writing
 
-fn say(line: Text) -> bool {
-    let n = line.size();
-    let bytes = line.bytes;
-    io::write_all(STDOUT_FILENO, &bytes[..n])
-}
-
 // How many bytes follow a header.
 fn payload(low: u8, high: u8) -> usize
     ensures { λ r. ⌜ r < 65536 ⌝ }
@@ -481,7 +474,7 @@ fn take_turn(t: Turn, buf: &mut [u8]) -> Turn
     let read = read_record(buf);
     if !read.whole {
         if read.size > 0 {
-            say(Text::new().piece(b"cut\n"));
+            stream::say(Text::new().piece(b"cut\n"));
         }
         return Turn {
             session: session,
@@ -490,7 +483,7 @@ fn take_turn(t: Turn, buf: &mut [u8]) -> Turn
     }
     let answered = answer(session, &buf[..read.size]);
     let next = answered.session;
-    let going = say(answered.line.byte(b'\n'));
+    let going = stream::say(answered.line.byte(b'\n'));
     Turn {
         session: next,
         going: going,

@@ -30,7 +30,8 @@ pub struct Waiting {
     pub going: bool,
 }
 
-fn say(line: Text) -> bool {
+// Writes a text, whole. It says whether that could be done.
+pub fn say(line: Text) -> bool {
     let n = line.size();
     let bytes = line.bytes;
     io::write_all(STDOUT_FILENO, &bytes[..n])
