@@ -1,0 +1,87 @@
+"""What docs/RULES.md points at is there: definitions, laws, functions, tests, files, and the wrong programs that any paper names."""
+
+import pathlib
+import re
+import unittest
+
+TOP = pathlib.Path(__file__).resolve().parent.parent
+PAGE = TOP / "docs" / "RULES.md"
+PLACED = re.compile(r"((?:`[^`]+`(?: and |, | )*)+)(?:of|in) ([a-z_]+/(?:specs|proofs|src)/[\w/]+\.(?:antt|rt))")
+
+
+def cells():
+    """What stands in the second column, with its line's number."""
+    for at, line in enumerate(PAGE.read_text().splitlines(), 1):
+        if line.startswith("| ") and line.endswith(" |") and not line.startswith("| sentence"):
+            yield at, line.rsplit(" | ", 1)[1].removesuffix(" |")
+
+
+def has(text, name):
+    return re.search(rf"(?<![\w'·-]){re.escape(name)}(?![\w'·-])", text) is not None
+
+
+def functions():
+    """Each function as crate::f, Type::f and f."""
+    found = set()
+    for path in TOP.glob("crates/*/src/*.rt"):
+        within = ""
+        for line in path.read_text().splitlines():
+            block = re.match(r"impl (\w+) \{", line)
+            head = re.match(r"\s*(?:pub )?fn (\w+)", line)
+            if block:
+                within = block.group(1) + "::"
+            elif line.startswith("}"):
+                within = ""
+            if head:
+                found |= {f"{path.parts[-3]}::{within}{head.group(1)}", f"{within}{head.group(1)}"}
+    return found
+
+
+class Rules(unittest.TestCase):
+    def test_names_stand_in_the_files_they_are_said_to(self):
+        count = 0
+        for at, cell in cells():
+            for names, file in PLACED.findall(cell):
+                path = TOP / "crates" / file
+                self.assertTrue(path.is_file(), f"line {at}: {file}")
+                for name in re.findall("`([^`]+)`", names):
+                    count += 1
+                    self.assertTrue(has(path.read_text(), name), f"line {at}: no {name} in {file}")
+        self.assertGreater(count, 300)
+
+    def test_functions_are_there(self):
+        known, count = functions(), 0
+        for at, cell in cells():
+            for name in re.findall(r"`([A-Za-z_]\w*(?:::[a-z_]\w*)+)`", cell):
+                count += 1
+                self.assertTrue(name in known or name.startswith("std::"), f"line {at}: no function {name}")
+        self.assertGreater(count, 80)
+
+    def test_wrong_programs_are_there(self):
+        known = {
+            f"{path.parent.parent.name}/{name}"
+            for path in TOP.glob("crates/*/must-fail/*.edit")
+            for name in re.findall(r"^# (\w+): \S+ at ", path.read_text(), re.M)
+        }
+        count = 0
+        for page in sorted(TOP.glob("docs/**/*.md")):
+            for run in re.findall(r"wrong programs? ((?:\w+/\w+(?:, | and )?)+)", page.read_text()):
+                for name in re.findall(r"\w+/\w+", run):
+                    count += 1
+                    self.assertTrue(name in known, f"{page.name}: no wrong program {name}")
+        self.assertGreater(count, 80)
+
+    def test_tests_are_there(self):
+        known = {name for path in TOP.glob("tests/test_*.py") for name in re.findall(r"def (test_\w+)", path.read_text())}
+        for at, cell in cells():
+            for name in re.findall(r"`(test_\w+)`", cell):
+                self.assertTrue(name in known, f"line {at}: no test {name}")
+
+    def test_files_are_there(self):
+        for at, cell in cells():
+            for file in re.findall(r"(?<![\w/])((?:docs|tools|tests|oracle)/[\w.-]+)", cell):
+                self.assertTrue((TOP / file.rstrip(".")).exists(), f"line {at}: {file}")
+
+
+if __name__ == "__main__":
+    unittest.main()
