@@ -59,6 +59,10 @@ class Refusals(unittest.TestCase):
         said = "AT/proofs/take/Proof.antt:9:1: error: `aside`: give a proof of that", "fn box::take: proved"
         self.assertIn("proved all the same", self.judged("take", "aside", *said))
 
+    def test_whose_line_it_is(self):
+        owners = [refusals.owner(SOURCE, line) for line in range(1, 12)]
+        self.assertEqual(owners, [None, *["Set::add"] * 4, None, None, *["take"] * 4])
+
     def test_only_the_first_error_counts(self):
         said = (
             "AT/proofs/take/Proof.antt:3:1: error: `first`: `foo` is not in scope",
