@@ -115,7 +115,7 @@ module _ (p : SessionParams) (valid : Valid p) (log : Log) (i k : ℕ) (li : i <
       let f = h .base in
       let ring = first-ok p log k low (ok .width .greatest) (ok .count .greatest) (untouched (s .window) (s .stats .«frames_repeated»)) (s .pending) (b .first) (b .width) (b .count) run (b .count) (omega arith) ew lr x (f .ring) in
       noted-ok _ _ _ (record {
-        base = record { par = f .par; ring = ring; next = f .next; fold = f .fold; prints = f .prints; out = f .out };
+        base = record { par = f .par; ring = ring; next = f .next; fold = f .fold; prints = f .prints; said = f .said; out = f .out };
         agree = h .agree;
       }))
       (λ _. refuse-ok s _ h)
@@ -143,6 +143,7 @@ module _ (p : SessionParams) (valid : Valid p) (log : Log) (i k : ℕ) (li : i <
               other = λ j t q l e. other j t q l (remoteFor-stored (s .prints) k f j t q (b .prints .size) e);
               owes = b .prints .owes;
             };
+        said = b .said;
         out = b .out;
       })
       (λ o t n j mine theirs l m y z. agree o t n j mine theirs l m (sym (ownFor-remote (s .prints) k f t) ∙ y) (remoteFor-stored (s .prints) k f j t theirs (b .prints .size) z))

@@ -67,8 +67,12 @@ pub record PrintFacts (p : SessionParams) (log : Log) (i : ℕ) (prints : Finger
   pub other : (k tick : ℕ) (f : Fingerprint) → k < p .count → remoteFor prints k tick ≡ Cell′.Holds f → Said log k tick (f .state)
   pub owes : (f : Fingerprint) → owed ≡ Cell′.Holds f → Said log i (f .tick) (f .state)
 
-abbrev pub OutFacts : Log → ℕ → Standing → Type 0
-OutFacts log i o = (tick : ℕ) → o ≡ Over (Desynced tick) → Differ log i tick
+-- a session's own commits are all below its pending tick
+abbrev pub SaidFacts : Log → (i pending : ℕ) → Type 0
+SaidFacts log i pending = (tick state : ℕ) → Said log i tick state → tick < pending
+
+abbrev pub OutFacts : SessionParams → Log → ℕ → Standing → Type 0
+OutFacts p log i o = (tick : ℕ) → o ≡ Over (Desynced tick) → Differ p log i tick
 
 abbrev pub Base : SessionParams → Log → ℕ → Session → Type 0
 Base p log i s =
@@ -78,7 +82,8 @@ Base p log i s =
       next : NextFacts log i (s .next);
       fold : FoldFacts p log (s .pending) (s .step) (s .digest);
       prints : PrintFacts p log i (s .prints) (s .owed);
-      out : OutFacts log i (s .outcome);
+      said : SaidFacts log i (s .pending);
+      out : OutFacts p log i (s .outcome);
     }
 
 abbrev pub Agrees : SessionParams → ℕ → Session → Type 0
@@ -111,14 +116,24 @@ EventOk p log (committed k tick d) = Unit {0}
 -- ---- a turn of seat i
 
 -- the second log goes on from the first, with no new press of seat j
-pub record Same (j : ℕ) (log longer : Log) : Type 0 where
+pub record Unpressed (j : ℕ) (log longer : Log) : Type 0 where
   pub keep : (e : Event) → List·Memᴰ e log → List·Memᴰ e longer
   pub back : (tick : ℕ) (b : List ℕ) → Pressed longer j tick b → Pressed log j tick b
   pub count : presses longer j ≡ presses log j
 
--- one press for a seat and a tick
-abbrev pub Once : Log → Type 0
-Once log = (k tick : ℕ) (b c : List ℕ) → Pressed log k tick b → Pressed log k tick c → b ≡ c
+-- and with no new commit of seat j either
+pub record Same (j : ℕ) (log longer : Log) : Type 0 where
+  pub unpressed : Unpressed j log longer
+  pub unsaid : (tick state : ℕ) → Said longer j tick state → Said log j tick state
+
+-- what a seat shows for a tick it shows once
+abbrev pub OnceBy : {T : Type 0} → ((seat tick : ℕ) → T → Event) → Log → Type 0
+OnceBy {T} made log = (k tick : ℕ) (b c : T) → List·Memᴰ (made k tick b) log → List·Memᴰ (made k tick c) log → b ≡ c
+
+-- one press for a seat and a tick, and one commit
+pub record Once (log : Log) : Type 0 where
+  pub press : OnceBy pressed log
+  pub commit : OnceBy committed log
 
 pub record TurnOk (p : SessionParams) (log : Log) (i : ℕ) (r : Turn) : Type 0 where
   pub session : SessOk p (r .shows ++ log) i (r .session)

@@ -6,7 +6,7 @@ use mathlib.Core.Logic.{_≢_}
 use mathlib.Core.Bool.{Bool, true, false, true≢false, _&&_, not}
 use native.Mathlib.Omega.{arith}
 use lib.Dec.{eqb, ltb}
-use borrow.Author.Tests.{lt-ltb, ne-eqb, ltb-true}
+use borrow.Author.Tests.{lt-ltb, ne-eqb, eqb-false, ltb-true, not-true}
 use Rattle.logic.proofs.Cases.{byTest, caseEq, and-both}
 use Rattle.peer.specs.Seats.{seats, has}
 use Rattle.params.specs.Params.{remotesOf}
@@ -32,39 +32,54 @@ over-not-open : (was : Standing) (o : Outcome) → over was o ≡ Open → ⊥
 over-not-open Open o e = not-open e
 over-not-open (Over q) o e = not-open e
 
-over-out : (log : Log) (i : ℕ) (was : Standing) (o : Outcome) → OutFacts log i was → ((t : ℕ) → o ≡ Desynced t → Differ log i t) → OutFacts log i (over was o)
-over-out log i Open o h d t e = d t (let q : o ≡ Desynced t = cc in q)
-over-out log i (Over q) o h d t e = h t e
+over-out : (p : SessionParams) (log : Log) (i : ℕ) (was : Standing) (o : Outcome) → OutFacts p log i was
+    → ((t : ℕ) → o ≡ Desynced t → Differ p log i t) → OutFacts p log i (over was o)
+over-out p log i Open o h d t e = d t (let q : o ≡ Desynced t = cc in q)
+over-out p log i (Over q) o h d t e = h t e
 
 module _ {p : SessionParams} {log : Log} {i : ℕ} where
-  pub ended-ok : (s : Session) (o : Outcome) → ((t : ℕ) → o ≡ Desynced t → Differ log i t) → Base p log i s → SessOk p log i (ended s o)
+  pub ended-ok : (s : Session) (o : Outcome) → ((t : ℕ) → o ≡ Desynced t → Differ p log i t) → Base p log i s → SessOk p log i (ended s o)
   unfolding ended
   ended-ok s o d b = record {
-    base = record { par = b .par; ring = b .ring; next = b .next; fold = b .fold; prints = b .prints; out = over-out log i (s .outcome) o (b .out) d };
+    base =
+        record {
+          par = b .par;
+          ring = b .ring;
+          next = b .next;
+          fold = b .fold;
+          prints = b .prints;
+          said = b .said;
+          out = over-out p log i (s .outcome) o (b .out) d;
+        };
     agree = λ e. absurd (over-not-open (s .outcome) o e);
   }
 
   module _ (few : p .count ≤ seats) (s : Session) (t : ℕ) (b : Base p log i s) where
     -- a remote is another seat of the circle
-    remote-low : (k : ℕ) → k < seats → has (remotesOf (s .params)) k ≡ true → k < p .count
-    remote-low k l e =
-        let q : ltb k (p .count) && not (eqb k i) ≡ true = sym (ap (λ (x : SessionParams). ltb k (x .count) && not (eqb k (x .local))) (b .par)) ∙ sym (has-remotes (s .params) k l) ∙ e in
-        ltb-true k (p .count) (and-both _ _ q .0)
+    remote-is : (k : ℕ) → k < seats → has (remotesOf (s .params)) k ≡ true → (k < p .count) × (k ≢ i)
+    remote-is k l e =
+        let q : ltb k (p .count) && not (eqb k i) ≡ true =
+        sym (ap (λ (x : SessionParams). ltb k (x .count) && not (eqb k (x .local))) (b .par)) ∙ sym (has-remotes (s .params) k l) ∙ e in
+        let both = and-both _ _ q in
+        (ltb-true k (p .count) (both .0), eqb-false k i (not-true _ (both .1)))
 
     is-remote : (k : ℕ) → k < p .count → k ≢ i → has (remotesOf (s .params)) k ≡ true
     is-remote k l n =
         has-remotes (s .params) k (omega arith) ∙ ap (λ (x : SessionParams). ltb k (x .count) && not (eqb k (x .local))) (b .par)
         ∙ rw (lt-ltb k (p .count) l, ne-eqb k i n)
 
-    apart : parted (s .prints) (remotesOf (s .params)) t ≡ true → Differ log i t
+    apart : parted (s .prints) (remotesOf (s .params)) t ≡ true → Differ p log i t
     apart e =
         let d = parted-true (s .prints) (remotesOf (s .params)) t e in
+        let is = remote-is (d .seat) (d .low) (d .remote) in
         record {
           seat = d .seat;
+          within = is .0;
+          another = is .1;
           ours = d .mine .state;
           theirs = d .theirs .state;
           we = b .prints .own t (d .mine) (d .own);
-          they = b .prints .other (d .seat) t (d .theirs) (remote-low (d .seat) (d .low) (d .remote)) (d .other);
+          they = b .prints .other (d .seat) t (d .theirs) (is .0) (d .other);
           apart = λ q. d .apart (sym q);
         }
 

@@ -57,6 +57,7 @@ module _ (p : SessionParams) (valid : Valid p) where
                 other = λ k t f l e. absurd (true≢false (cc (remoteFor-new k t)));
                 owes = λ f e. absurd (true≢false (cc));
               };
+          said = λ t d x. elim x [ ];
           out = λ t e. absurd (true≢false (cc));
         };
     agree = λ _ t k mine theirs l n x y. absurd (true≢false (cc (ownFor-new t)));
@@ -103,7 +104,12 @@ module _ (p : SessionParams) (valid : Valid p) where
 
   pub run-ok : (cs : List Call) → Few p (run p cs .log) → WorldOk p (run p cs)
   unfolding run play after
-  run-ok [] = λ few. record { sessions = λ i l. fresh-ok i; mail = λ m x. elim x [ ]; steps = λ e x. elim x [ ]; once = λ k t b c x y. elim x [ ] }
+  run-ok [] = λ few. record {
+    sessions = λ i l. fresh-ok i;
+    mail = λ m x. elim x [ ];
+    steps = λ e x. elim x [ ];
+    once = record { press = λ k t b c x y. elim x [ ]; commit = λ k t b c x y. elim x [ ] };
+  }
   run-ok (c ∷ cs) =
       let w = run p cs in
       byTest (λ (u : World). Few p (u .log) → WorldOk p u)

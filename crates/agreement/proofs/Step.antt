@@ -4,7 +4,7 @@ use Prim.Native.Nat.{ℕ, zero, suc, _+_, _-_, _≤_, _<_}
 use mathlib.Core.Path.{_≡_, refl, sym, ap, subst, _∙_}
 use mathlib.Core.Logic.{_≢_}
 use mathlib.Core.Bool.{Bool, true, false, not, _||_, true≢false}
-use mathlib.Core.List.{List, [], _∷_, List·Memᴰ·head}
+use mathlib.Core.List.{List, [], _∷_, List·Memᴰ·head, List·Memᴰ·tail}
 use native.Mathlib.Omega.{arith}
 use lib.ListN.{getD, length, take}
 use borrow.Author.Tests.{lt-ltb, eqb-false}
@@ -45,8 +45,9 @@ use Rattle.session.specs.Step as Calls
 use Rattle.session.proofs.Cases.{isIdle, advance-cases, commit-cases}
 use Rattle.agreement.specs.World.{seated, stepped, committed, stepShown, advanceTurn, commitShown, commitTurn}
 use Rattle.agreement.specs.Demand.{Valid, Said, presses, AgreeAt}
-use Rattle.agreement.proofs.Facts.{Log, AllPressed, Folded, FoldFacts, SessOk, EventOk, Same, TurnOk, TurnGoal}
-use Rattle.agreement.proofs.Grow.{single, sess-same, same-stepped, same-committed, once-same, event-up, quiet-ok}
+use Rattle.agreement.proofs.Facts.{Log, AllPressed, Folded, FoldFacts, SaidFacts, SessOk, EventOk, Same, TurnOk, TurnGoal}
+use Rattle.agreement.proofs.Grow.{single, sess-up, sess-same, same-stepped, unpressed-committed, same-committed}
+use Rattle.agreement.proofs.Grow.{once-stepped, once-committed, event-up, quiet-ok}
 use Rattle.agreement.proofs.Submit.{raised-lt}
 use Rattle.agreement.proofs.Judge.{judge-ok}
 
@@ -104,19 +105,29 @@ module _ (p : SessionParams) (valid : Valid p) (log : Log) (i : ℕ) (li : i < p
       let fold : Folded p log (suc (s .pending)) a = record { before = s .digest; rows = rows; fold = f; all = all; is = is } in
       let shown = stepped i (s .pending) rows a in
       let grown : (j : ℕ) → Same j log (shown ∷ log) = λ j. same-stepped j log i (s .pending) a rows in
+      let keep = grown i .unpressed .keep in
       let g = sess-same (grown i) h in
-      let later = event-up (grown i .keep) p shown (all, fold) in
+      let later = event-up keep p shown (all, fold) in
       record {
         session =
             record {
-              base = record { par = g .base .par; ring = g .base .ring; next = g .base .next; fold = (refl, later .1); prints = g .base .prints; out = g .base .out };
+              base =
+                  record {
+                    par = g .base .par;
+                    ring = g .base .ring;
+                    next = g .base .next;
+                    fold = (refl, later .1);
+                    prints = g .base .prints;
+                    said = g .base .said;
+                    out = g .base .out;
+                  };
               agree = g .agree;
             };
         sends = λ m x. elim x [ ];
         shows = single (EventOk p (shown ∷ log)) later;
-        once = once-same grown;
+        once = once-stepped i (s .pending) a rows;
         others = λ j _. grown j;
-        keep = grown i .keep;
+        keep = keep;
       }
 
   still : (s : Session) (a : Advance) → isIdle a ≡ true → SessOk p log i s → TurnOk p log i (advanceTurn i (idle s a))
@@ -161,6 +172,7 @@ module _ (p : SessionParams) (few : p .count ≤ seats) (log : Log) (i : ℕ) wh
               other = λ k t′ q l e. b .prints .other k t′ q l (sym (remoteFor-own (s .prints) f k t′) ∙ e);
               owes = λ q e. let same : q ≡ f = cc in rw same x;
             };
+        said = b .said;
         out = b .out;
       })
       (λ o t′ n k mine theirs l m y z. agree o t′ n k mine theirs l m (ownFor-stored (s .prints) f t′ mine (b .prints .size) y) (sym (remoteFor-own (s .prints) f k t′) ∙ z))
@@ -177,16 +189,41 @@ module _ (p : SessionParams) (few : p .count ≤ seats) (log : Log) (i : ℕ) wh
       agree o t′ n k mine theirs l m (fresh a c) z = absurd (n a)
       agree o t′ n k mine theirs l m (older c) z = h .agree o t′ k mine theirs l m c z
 
-  -- the tick of an outstanding step has one's own press, so it is not the last number
-  pend-ok : i < p .count → (s : Session) (t : ℕ) (due : Bool) → s .step ≡ Out t due → presses log i < most → SessOk p log i s → SessOk p log i (withCommit s (raised (s .pending)))
-  pend-ok li s t due e rare h =
-      let b = h .base in
-      let f : FoldFacts p log (s .pending) (Out t due) (s .digest) = subst (λ (o : Outstanding). FoldFacts p log (s .pending) o (s .digest)) e (b .fold) in
-      let low : s .pending < most = omega (arith, b .next .below (s .pending) _ (f .1 .all .each i li), b .next .many) in
-      record {
-        base = record { par = b .par; ring = b .ring; next = b .next; fold = rw (raised-lt (s .pending) low) (f .1); prints = b .prints; out = b .out };
-        agree = h .agree;
-      }
+  -- an outstanding step is for the pending tick, which has one's own press, so it is not the last number
+  module _ (li : i < p .count) (s : Session) (t : ℕ) (due : Bool) (e : s .step ≡ Out t due) (h : SessOk p log i s) where
+    out-fold : (t ≡ s .pending) × Folded p log (suc (s .pending)) (s .digest)
+    out-fold = subst (λ (o : Outstanding). FoldFacts p log (s .pending) o (s .digest)) e (h .base .fold)
+
+    room : presses log i < most → raised (s .pending) ≡ suc (s .pending)
+    room rare =
+        let own = out-fold .1 .all .each i li in
+        raised-lt (s .pending) (omega (arith, h .base .next .below (s .pending) _ own, h .base .next .many))
+
+    pend-ok : presses log i < most → SessOk p log i (withCommit s (raised (s .pending)))
+    pend-ok rare =
+        let b = h .base in
+        let more = room rare in
+        record {
+          base =
+              record {
+                par = b .par;
+                ring = b .ring;
+                next = b .next;
+                fold = rw more (out-fold .1);
+                prints = b .prints;
+                said = λ t′ d x. omega (arith, more, b .said t′ d x);
+                out = b .out;
+              };
+          agree = h .agree;
+        }
+
+    -- so its commit is the seat's first for that tick, and below the next pending one
+    unsaid : (d : ℕ) → Said log i t d → ⊥
+    unsaid d x = omega (arith, out-fold .0, h .base .said t d x)
+
+    said-ok : (d : ℕ) → presses log i < most → SaidFacts (committed i t d ∷ log) i (raised (s .pending))
+    said-ok d rare t′ d′ (List·Memᴰ·head q) = let same : t′ ≡ t = cc in omega (arith, same, out-fold .0, room rare)
+    said-ok d rare t′ d′ (List·Memᴰ·tail x) = omega (arith, room rare, h .base .said t′ d′ x)
 
 module _ (p : SessionParams) (few : p .count ≤ seats) (log : Log) (i : ℕ) (li : i < p .count) where
   uncommitted : (s : Session) (t : ℕ) (given : WorldDigest) (a : Commit) → commitNo a ≢ 0 → SessOk p log i s → TurnGoal p log i (commitTurn i t given (Calls.committed s a))
@@ -196,18 +233,21 @@ module _ (p : SessionParams) (few : p .count ≤ seats) (log : Log) (i : ℕ) (l
   done-ok : (s : Session) (t : ℕ) (given : WorldDigest) (due : Bool) → s .step ≡ Out t due → SessOk p log i s
       → TurnGoal p log i (commitTurn i t given (Calls.committed (keepDigest (withCommit s (raised (s .pending))) t given) Commit′.Done))
   unfolding commitTurn commitShown keepDigest
-  done-ok s t Absent due e h rare = quiet-ok (pend-ok p few log i li s t due e (rare i li) h)
+  done-ok s t Absent due e h rare = quiet-ok (pend-ok p few log i li s t due e h (rare i li))
   done-ok s t (Present d) due e h rare =
-      let grown : (j : ℕ) → Same j log (committed i t d ∷ log) = λ j. same-committed j log i t d in
+      let longer = committed i t d ∷ log in
+      let grown = unpressed-committed i log i t d in
+      let few-here : presses log i < most = omega (arith, rare i li, grown .count) in
+      let next = withCommit s (raised (s .pending)) in
       record {
         session =
-            print-ok p few (committed i t d ∷ log) i (withCommit s (raised (s .pending))) t d
-            (pend-ok p few (committed i t d ∷ log) i li s t due e (rare i li) (sess-same (grown i) h)) (List·Memᴰ·head refl);
+            print-ok p few longer i next t d
+            (sess-up grown (said-ok p few log i li s t due e h d few-here) (pend-ok p few log i li s t due e h few-here)) (List·Memᴰ·head refl);
         sends = λ m x. elim x [ ];
-        shows = single (EventOk p (committed i t d ∷ log)) tt;
-        once = once-same grown;
-        others = λ j _. grown j;
-        keep = grown i .keep;
+        shows = single (EventOk p longer) tt;
+        once = once-committed i t d (unsaid p few log i li s t due e h);
+        others = λ j n. same-committed i j log t d n;
+        keep = grown .keep;
       }
 
   pub commit-ok : (s : Session) (t : ℕ) (given : WorldDigest) → SessOk p log i s → TurnGoal p log i (commitTurn i t given (commit s t given))
@@ -226,7 +266,16 @@ module _ {p : SessionParams} {log : Log} {i : ℕ} where
   left-ok s Open e h =
       let b = h .base in
       record {
-        base = record { par = b .par; ring = b .ring; next = b .next; fold = b .fold; prints = b .prints; out = λ t q. absurd (left-not-desynced q) };
+        base =
+            record {
+              par = b .par;
+              ring = b .ring;
+              next = b .next;
+              fold = b .fold;
+              prints = b .prints;
+              said = b .said;
+              out = λ t q. absurd (left-not-desynced q);
+            };
         agree = λ q. absurd (let z : _≡_ {A = ℕ} 0 1 = cc in omega arith);
       }
 

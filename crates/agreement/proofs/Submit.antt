@@ -2,6 +2,7 @@
 -- Assumes nothing.
 use Prim.Native.Nat.{ℕ, suc, _+_, _≤_, _<_}
 use mathlib.Core.Path.{_≡_, refl, sym, ap, subst, _∙_}
+use mathlib.Core.Bool.{true≢false}
 use mathlib.Core.List.{List, [], _∷_, List·Memᴰ·head, List·Memᴰ·tail}
 use native.Mathlib.Omega.{arith}
 use lib.ListN.{length}
@@ -24,9 +25,9 @@ use Rattle.session.specs.declared.Submitted.{Submitted}
 use Rattle.session.specs.Session.{withPress, started}
 use Rattle.session.specs.Host.{submitted, press, submitOpen, submitBy, submit}
 use Rattle.agreement.specs.World.{seated, pressed, pressShown, submitTurn}
-use Rattle.agreement.specs.Demand.{Valid, Pressed, presses}
-use Rattle.agreement.proofs.Facts.{Log, RingFacts, SessOk, EventOk, Once, TurnGoal}
-use Rattle.agreement.proofs.Grow.{single, Sub, fold-up, prints-up, out-up, quiet-ok, same-pressed}
+use Rattle.agreement.specs.Demand.{Valid, Pressed, Said, presses}
+use Rattle.agreement.proofs.Facts.{Log, RingFacts, SessOk, EventOk, TurnGoal}
+use Rattle.agreement.proofs.Grow.{single, Sub, fold-up, prints-up, out-up, quiet-ok, same-pressed, once-pressed}
 
 pub raised-lt : (n : ℕ) → n < most → raised n ≡ suc n
 unfolding raised
@@ -80,6 +81,7 @@ module _ (p : SessionParams) (valid : Valid p) (log : Log) (i : ℕ) (li : i < p
                   };
               fold = fold-up up p (s .pending) (s .step) (s .digest) (f .fold);
               prints = prints-up up (f .prints);
+              said = λ t d x. f .said t d (unsaid t d x);
               out = out-up up (f .out);
             };
         agree = h .agree;
@@ -89,12 +91,9 @@ module _ (p : SessionParams) (valid : Valid p) (log : Log) (i : ℕ) (li : i < p
       below t v (List·Memᴰ·head e) = let q : t ≡ s .next = cc in omega arith
       below t v (List·Memᴰ·tail x) = omega (arith, h .base .next .below t v x)
 
-  -- a press is the first of its tick
-  press-once : (t : ℕ) (b : List ℕ) → ((v : List ℕ) → Pressed log i t v → ⊥) → Once log → Once (pressed i t b ∷ log)
-  press-once t b new o k t′ x y (List·Memᴰ·head a) (List·Memᴰ·head c) = cc
-  press-once t b new o k t′ x y (List·Memᴰ·head a) (List·Memᴰ·tail c) = absurd (new y (let d : k ≡ i = cc in let e : t′ ≡ t = cc in rw (d, e) at c))
-  press-once t b new o k t′ x y (List·Memᴰ·tail a) (List·Memᴰ·head c) = absurd (new x (let d : k ≡ i = cc in let e : t′ ≡ t = cc in rw (d, e) at a))
-  press-once t b new o k t′ x y (List·Memᴰ·tail a) (List·Memᴰ·tail c) = o k t′ x y a c
+      unsaid : (t d : ℕ) → Said (pressed i (s .next) b ∷ log) i t d → Said log i t d
+      unsaid t d (List·Memᴰ·head e) = absurd (true≢false (cc))
+      unsaid t d (List·Memᴰ·tail x) = x
 
   refused : (a : Submit) (b : List ℕ) (s : Session) → pressShown i b a ≡ [] → SessOk p log i s → TurnGoal p log i (submitTurn i b (submitted s a))
   unfolding submitTurn
@@ -107,7 +106,7 @@ module _ (p : SessionParams) (valid : Valid p) (log : Log) (i : ℕ) (li : i < p
     session = g (omega (arith, few i li, presses-more (s .next) b, h .base .next .many));
     sends = λ m x. elim x [ ];
     shows = single (EventOk p (pressed i (s .next) b ∷ log)) tt;
-    once = press-once (s .next) b (λ v x. omega (arith, h .base .next .below (s .next) v x));
+    once = once-pressed i (s .next) b (λ v x. omega (arith, h .base .next .below (s .next) v x));
     others = λ j n. same-pressed i j log (s .next) b n;
     keep = λ e x. List·Memᴰ·tail x;
   }

@@ -11,7 +11,7 @@ use Rattle.peer.specs.Seats.{seats}
 use Rattle.params.specs.declared.SessionParams.{SessionParams}
 use Rattle.rows.specs.Rows.{padded, stepDigest}
 use Rattle.agreement.specs.World.{Call, stepped, World, run}
-use Rattle.agreement.specs.Demand.{Valid, Few, Demand3}
+use Rattle.agreement.specs.Demand.{Valid, Few, Said, Demand3}
 use Rattle.agreement.proofs.Facts.{Log, AllPressed, Folded, Once, WorldOk}
 use Rattle.agreement.proofs.Run.{run-ok}
 
@@ -22,7 +22,7 @@ module _ (p : SessionParams) {log : Log} (once : Once log) where
       ext-getD [] rows others (x .size ∙ sym (y .size))
       (λ k l.
       let low : k < seats = omega (arith, x .size) in
-      caseLt k (p .count) (λ m. x .pads k m ∙ ap padded (once k t _ _ (x .each k m) (y .each k m)) ∙ sym (y .pads k m))
+      caseLt k (p .count) (λ m. x .pads k m ∙ ap padded (once .press k t _ _ (x .each k m) (y .each k m)) ∙ sym (y .pads k m))
       (λ m. x .none k low m ∙ sym (y .none k low m)))
 
   folded-one : (n a b : ℕ) → Folded p log n a → Folded p log n b → a ≡ b
@@ -40,7 +40,7 @@ meets p w h = record {
         bytes = rows-one p (h .once) (one .0) (two .0);
         digests = folded-one p (h .once) (suc t) a b (one .1) (two .1);
         submitted = one .0 .each;
-        no-other = λ k v l z. h .once k t v (take (p .width) (getD rows k [])) z (one .0 .each k l);
+        no-other = λ k v l z. h .once .press k t v (take (p .width) (getD rows k [])) z (one .0 .each k l);
       };
   desynced = λ i t l e. h .sessions i l .base .out t e;
   holds = λ i t l e. h .sessions i l .agree e t;
@@ -48,3 +48,8 @@ meets p w h = record {
 
 pub demand3 : (p : SessionParams) → Valid p → (cs : List Call) → Few p (run p cs .log) → Demand3 p (run p cs)
 demand3 p valid cs few = meets p (run p cs) (run-ok p valid cs few)
+
+-- a seat commits once for a tick: the two commits of `Differ` are two seats' and not one's, who changed its mind
+pub commits-once : (p : SessionParams) → Valid p → (cs : List Call) → Few p (run p cs .log) → (k tick one other : ℕ)
+    → Said (run p cs .log) k tick one → Said (run p cs .log) k tick other → one ≡ other
+commits-once p valid cs few = run-ok p valid cs few .once .commit

@@ -55,9 +55,11 @@ pub record SameStep (p : SessionParams) (log : List Event) (tick : ℕ) (rows ot
   pub submitted : (k : ℕ) → k < p .count → Pressed log k tick (take (p .width) (getD rows k []))
   pub no-other : (k : ℕ) (v : List ℕ) → k < p .count → Pressed log k tick v → v ≡ take (p .width) (getD rows k [])
 
--- two committed different world digests there, this session among them
-pub record Differ (log : List Event) (i tick : ℕ) : Type 0 where
+-- two committed different world digests there: this session, and another seat of the circle
+pub record Differ (p : SessionParams) (log : List Event) (i tick : ℕ) : Type 0 where
   pub seat : ℕ
+  pub within : seat < p .count
+  pub another : seat ≢ i
   pub ours : ℕ
   pub theirs : ℕ
   pub we : Said log i tick ours
@@ -72,5 +74,5 @@ AgreeAt count i prints tick = (k : ℕ) (mine theirs : Fingerprint) → k < coun
 pub record Demand3 (p : SessionParams) (w : World) : Type 0 where
   pub steps : (i j tick : ℕ) (rows others : List (List ℕ)) (digest other : ℕ)
       → List·Memᴰ (stepped i tick rows digest) (w .log) → List·Memᴰ (stepped j tick others other) (w .log) → SameStep p (w .log) tick rows others digest other
-  pub desynced : (i tick : ℕ) → i < p .count → w .at i .outcome ≡ Over (Desynced tick) → Differ (w .log) i tick
+  pub desynced : (i tick : ℕ) → i < p .count → w .at i .outcome ≡ Over (Desynced tick) → Differ p (w .log) i tick
   pub holds : (i tick : ℕ) → i < p .count → w .at i .outcome ≡ Open → AgreeAt (p .count) i (w .at i .prints) tick
