@@ -1,15 +1,13 @@
 """What tools/refusals takes for a refusal and what not."""
 
-import importlib.machinery
-import importlib.util
 import pathlib
 import tempfile
 import unittest
+from unittest import mock
 
-PATH = pathlib.Path(__file__).resolve().parent.parent / "tools" / "refusals"
-loader = importlib.machinery.SourceFileLoader("refusals", str(PATH))
-refusals = importlib.util.module_from_spec(importlib.util.spec_from_loader("refusals", loader))
-loader.exec_module(refusals)
+import tool
+
+refusals = tool.load("refusals")
 
 SOURCE = """impl Set {
     pub fn add(self) -> Set
@@ -20,21 +18,52 @@ SOURCE = """impl Set {
 
 fn take(n: u8) -> u8
 {
+    if n > 8 {
+        return 8;
+    }
     n
 }
+
+const MOST: u8 = 8;
+
+pub(crate) fn one() -> u8 { 1 }
+
+impl<'a> Reader<'a> {
+    #[no_mangle]
+    pub extern "C" fn rest(
+        self,
+    ) -> u8 {
+        // fn none() {
+        b'}'
+    }
+}
 """
+# The function of each line.
+OWNERS = [None, *["Set::add"] * 4, None, None, *["take"] * 7, None, None, None, "one", None, None,
+          *["Reader::rest"] * 7, None]
 
 
 class Refusals(unittest.TestCase):
+    def setUp(self):
+        room = tempfile.TemporaryDirectory()
+        self.addCleanup(room.cleanup)
+        self.crate = pathlib.Path(room.name) / "crates" / "box"
+        (self.crate / "src" / "sets").mkdir(parents=True)
+        for file in "lib", "sets", "sets/small":
+            (self.crate / "src" / f"{file}.rt").write_text(SOURCE)
+
     def judged(self, where, place, *lines):
         """What is amiss with a wrong answer at WHERE, PLACE, given what the checker said."""
-        with tempfile.TemporaryDirectory() as room:
-            folder = pathlib.Path(room)
-            (folder / "src").mkdir()
-            (folder / "src" / "lib.rt").write_text(SOURCE)
-            log = "\n".join(line.replace("AT/", f"{folder}/") for line in lines)
-            (folder / ".log").write_text(log)
-            return refusals.judged("box", refusals.Wrong("x", where, place, "fact"), refusals.first_words(folder), log)
+        log = "\n".join(line.replace("AT/", f"{self.crate}/") for line in lines)
+        (self.crate / ".log").write_text(log)
+        return refusals.judged("box", refusals.Wrong("x", where, place, "fact"), refusals.first_words(self.crate), log)
+
+    def astray(self, where, *replaces):
+        """The text that a wrong answer at WHERE replaces elsewhere."""
+        wrong = refusals.Wrong("x", where, "returns", "fact")
+        wrong.replaces = list(replaces)
+        with mock.patch.object(refusals, "TOP", self.crate.parent.parent):
+            return refusals.astray("box", wrong)
 
     def test_a_fact_that_fails_in_a_proof(self):
         said = "AT/proofs/Set/add/Proof.antt:9:1: error: `returns-2`: give a proof of that", "fn box::Set::add: not proved"
@@ -60,8 +89,32 @@ class Refusals(unittest.TestCase):
         self.assertIn("proved all the same", self.judged("take", "aside", *said))
 
     def test_whose_line_it_is(self):
-        owners = [refusals.owner(SOURCE, line) for line in range(1, 12)]
-        self.assertEqual(owners, [None, *["Set::add"] * 4, None, None, *["take"] * 4])
+        lines = range(1, len(OWNERS) + 1)
+        self.assertEqual(len(OWNERS), len(SOURCE.splitlines()))
+        self.assertEqual([refusals.owner(self.crate, "src/lib.rt", line) for line in lines], OWNERS)
+        for file, module in ("sets", "sets::"), ("sets/small", "sets::small::"):
+            owners = [refusals.owner(self.crate, f"src/{file}.rt", line) for line in lines]
+            self.assertEqual(owners, [name and module + name for name in OWNERS])
+
+    def test_a_text_in_another_function_than_it_says(self):
+        texts = ("Set::add", "        self\n"), ("take", "    n\n"), ("one", "{ 1 }"), ("Reader::rest", "b'}'")
+        for where, old in texts:
+            self.assertIsNone(self.astray(where, ("src/lib.rt", old)), old)
+            self.assertEqual(self.astray("other", ("src/lib.rt", old)), old)
+            self.assertIsNone(self.astray(f"sets::{where}", ("src/sets.rt", old)), old)
+            self.assertEqual(self.astray(where, ("src/sets.rt", old)), old)
+        self.assertEqual(self.astray("take", ("src/lib.rt", "return 8"), ("src/lib.rt", "{ 1 }")), "{ 1 }")
+        self.assertEqual(self.astray("take", ("src/lib.rt", "not there")), "not there")
+
+    def test_a_text_in_no_function_may_stand_for_any(self):
+        self.assertIsNone(self.astray("take", ("src/lib.rt", "const MOST: u8 = 8;")))
+
+    def test_a_fact_that_fails_in_a_module(self):
+        proof = "AT/proofs/sets/take/Proof.antt:9:1: error: `returns`: give a proof of that"
+        self.assertIsNone(self.judged("sets::take", "returns", proof, "fn box::sets::take: not proved"))
+        said = "note: AT/src/sets.rt:13:5: it is not proved that a sum fits (`sum`)", "fn box::sets::take: no proof: .."
+        self.assertIsNone(self.judged("sets::take", "sum", *said))
+        self.assertIn("nothing is said", self.judged("take", "sum", *said))
 
     def test_only_the_first_error_counts(self):
         said = (
