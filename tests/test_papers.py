@@ -2,10 +2,17 @@
 
 import pathlib
 import re
+import sys
+import tempfile
 import unittest
 
 TOP = pathlib.Path(__file__).resolve().parent.parent
+sys.path.insert(0, str(TOP / "tools"))
+
+from lib import source  # noqa: E402
+
 PAGE = TOP / "docs" / "RULES.md"
+NAMED = re.compile(r"`([A-Za-z_]\w*(?:::\w+)*::[a-z_]\w*)`")
 PLACED = re.compile(r"((?:`[^`]+`(?: and |, | )*)+)(?:of|in) ([a-z_]+/(?:specs|proofs|src)/[\w/]+\.(?:antt|rt))")
 
 
@@ -20,21 +27,10 @@ def has(text, name):
     return re.search(rf"(?<![\w'·-]){re.escape(name)}(?![\w'·-])", text) is not None
 
 
-def functions():
-    """Each function as crate::f, Type::f and f."""
-    found = set()
-    for path in TOP.glob("crates/*/src/*.rt"):
-        within = ""
-        for line in path.read_text().splitlines():
-            block = re.match(r"impl (\w+) \{", line)
-            head = re.match(r"\s*(?:pub )?fn (\w+)", line)
-            if block:
-                within = block.group(1) + "::"
-            elif line.startswith("}"):
-                within = ""
-            if head:
-                found |= {f"{path.parts[-3]}::{within}{head.group(1)}", f"{within}{head.group(1)}"}
-    return found
+def functions(crates):
+    """Each function of crates, given by their folders, as f, Type::f or module::f, and with its crate before it."""
+    names = {(crate.name, function.name) for crate in crates for function in source.of_crate(crate)}
+    return {name for _, name in names} | {f"{crate}::{name}" for crate, name in names}
 
 
 class Rules(unittest.TestCase):
@@ -50,9 +46,9 @@ class Rules(unittest.TestCase):
         self.assertGreater(count, 300)
 
     def test_functions_are_there(self):
-        known, count = functions(), 0
+        known, count = functions(TOP.glob("crates/*")), 0
         for at, cell in cells():
-            for name in re.findall(r"`([A-Za-z_]\w*(?:::[a-z_]\w*)+)`", cell):
+            for name in NAMED.findall(cell):
                 count += 1
                 self.assertTrue(name in known or name.startswith("std::"), f"line {at}: no function {name}")
         self.assertGreater(count, 80)
@@ -81,6 +77,22 @@ class Rules(unittest.TestCase):
         for at, cell in cells():
             for file in re.findall(r"(?<![\w/])((?:docs|tools|tests|oracle)/[\w.-]+)", cell):
                 self.assertTrue((TOP / file.rstrip(".")).exists(), f"line {at}: {file}")
+
+
+class Names(unittest.TestCase):
+    def test_which_functions_a_crate_has(self):
+        text = "impl<'a> Set<'a> {\n    pub(crate) fn add() {\n    }\n}\n/*\nfn none() {\n*/\nextern \"C\" fn take() {}\n"
+        with tempfile.TemporaryDirectory() as room:
+            crate = pathlib.Path(room) / "box"
+            (crate / "src").mkdir(parents=True)
+            for file in "lib", "sets":
+                (crate / "src" / f"{file}.rt").write_text(text)
+            names = {"Set::add", "take", "sets::Set::add", "sets::take"}
+            self.assertEqual(functions([crate]), names | {f"box::{name}" for name in names})
+
+    def test_which_names_are_looked_for(self):
+        self.assertEqual(NAMED.findall("`take`, `Set::add`, `box::sets::take`, `box::Set::add`, `Refusal::FromSelf`"),
+                         ["Set::add", "box::sets::take", "box::Set::add"])
 
 
 if __name__ == "__main__":
