@@ -1,10 +1,10 @@
--- `carried::changed` is safe and ends. Assumes nothing.
+-- `carried::report::changed` is safe and ends. Assumes nothing.
 use Prim.Native.Nat.{_-_, _≤_}
 use native.Mathlib.Omega.{arith}
 use borrow.Author.Needs.{needs}
 use lib.ListN.{length}
-use Rattle.carried.proofs.changed.Statement.{statement}
-use Rattle.carried.proofs.changed.Tie as tie
+use Rattle.carried.proofs.report.changed.Statement.{statement}
+use Rattle.carried.proofs.report.changed.Tie as tie
 
 abbrev Inv-loop : tie.InvT-loop
 Inv-loop buffer n₀ i₀ n i = i ≤ length buffer

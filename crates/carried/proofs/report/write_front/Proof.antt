@@ -1,9 +1,9 @@
--- `carried::write_front` is safe: what is lent is a part of the buffer. Assumes nothing.
+-- `carried::report::write_front` is safe: what is lent is a part of the buffer. Assumes nothing.
 use mathlib.Core.Path.{sym}
 use borrow.Author.Needs.{needs}
 use lib.Seq.{length-take-le}
-use Rattle.carried.proofs.write_front.Statement.{statement}
-use Rattle.carried.proofs.write_front.Tie as tie
+use Rattle.carried.proofs.report.write_front.Statement.{statement}
+use Rattle.carried.proofs.report.write_front.Tie as tie
 
 slice-aggregate-write-report : tie.Need-slice-aggregate-write-report
 slice-aggregate-write-report c = sym (length-take-le _ _ (c .before .before .pre))
