@@ -31,14 +31,22 @@ abbrev pub Sub : Log → Log → Type 0
 Sub log longer = (e : Event) → List·Memᴰ e log → List·Memᴰ e longer
 
 module _ {log longer : Log} (up : Sub log longer) where
-  all-up : {p : SessionParams} {tick : ℕ} {rows : List (List ℕ)} → AllPressed p log tick rows → AllPressed p longer tick rows
+  all-up : {p : SessionParams} {tick : ℕ} {rows : List (List ℕ)} → AllPressed p log tick rows
+      → AllPressed p longer tick rows
   all-up h = record { size = h .size; each = λ k l. up _ (h .each k l); pads = h .pads; none = h .none }
 
   pub folded-up : (p : SessionParams) (n a : ℕ) → Folded p log n a → Folded p longer n a
   folded-up p zero a h = h
-  folded-up p (suc n) a h = record { before = h .before; rows = h .rows; fold = folded-up p n (h .before) (h .fold); all = all-up (h .all); is = h .is }
+  folded-up p (suc n) a h = record {
+    before = h .before;
+    rows = h .rows;
+    fold = folded-up p n (h .before) (h .fold);
+    all = all-up (h .all);
+    is = h .is;
+  }
 
-  pub fold-up : (p : SessionParams) (pending : ℕ) (o : Outstanding) (a : ℕ) → FoldFacts p log pending o a → FoldFacts p longer pending o a
+  pub fold-up : (p : SessionParams) (pending : ℕ) (o : Outstanding) (a : ℕ) → FoldFacts p log pending o a
+      → FoldFacts p longer pending o a
   fold-up p pending Free a h = folded-up p pending a h
   fold-up p pending (Out tick due) a h = (h .0, folded-up p (suc pending) a (h .1))
 
@@ -48,7 +56,8 @@ module _ {log longer : Log} (up : Sub log longer) where
   pub ring-up : {p : SessionParams} {w : Window} → RingFacts p log w → RingFacts p longer w
   ring-up h = record { ok = h .ok; each = λ k t v l x. up _ (h .each k t v l x) }
 
-  pub prints-up : {p : SessionParams} {i : ℕ} {prints : Fingerprints} {owed : Cell} → PrintFacts p log i prints owed → PrintFacts p longer i prints owed
+  pub prints-up : {p : SessionParams} {i : ℕ} {prints : Fingerprints} {owed : Cell} → PrintFacts p log i prints owed
+      → PrintFacts p longer i prints owed
   prints-up h = record {
     size = h .size;
     own = λ t f x. up _ (h .own t f x);
@@ -163,7 +172,8 @@ once-committed i t d new h = record {
 }
 
 -- a turn that shows nothing and sends nothing
-pub quiet-ok : {p : SessionParams} {log : Log} {i : ℕ} {s : Session} → SessOk p log i s → TurnOk p log i (record { session = s; sends = []; shows = [] })
+pub quiet-ok : {p : SessionParams} {log : Log} {i : ℕ} {s : Session} → SessOk p log i s
+    → TurnOk p log i (record { session = s; sends = []; shows = [] })
 quiet-ok {p} {log} {i} h = record {
   session = h;
   sends = λ m x. elim x [ ];

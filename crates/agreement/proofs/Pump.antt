@@ -1,5 +1,5 @@
--- What a pump makes is true: the frames of an Inputs are its seat's presses, and a Digest is one that its seat committed.
--- Assumes nothing.
+-- What a pump makes is true: the frames of an Inputs are its seat's presses, and a Digest is one that its seat
+-- committed. Assumes nothing.
 use Prim.Native.Nat.{ℕ, zero, suc, _+_, _-_, _*_, _≤_, _<_}
 use mathlib.Core.Path.{_≡_, refl, sym, ap, subst, _∙_}
 use mathlib.Core.List.{List, [], _∷_, List·Memᴰ}
@@ -52,7 +52,8 @@ frame-front : (run : List ℕ) (w c j : ℕ) → j < c → frameAt (take (c * w)
 unfolding frameAt
 frame-front run w c j l =
     let more : suc j * w ≤ c * w = mul-le-mul-right w l in
-    rw (drop-of-take (j * w) (c * w) run) (take-take w (c * w - j * w) (drop (j * w) run) (omega (arith, more, suc-mul j w)))
+    rw (drop-of-take (j * w) (c * w) run)
+    (take-take w (c * w - j * w) (drop (j * w) run) (omega (arith, more, suc-mul j w)))
 
 -- ---- the digest that is sent is the one that is owed
 
@@ -66,7 +67,8 @@ says-digest : (s : Session) (emit : Emit) (d : DigestBody) → saying s emit ≡
 unfolding saying inputsOf digestOf
 says-digest s Emit′.Hello d e = let z : _≡_ {A = ℕ} 0 1 = cc in absurd (omega arith)
 says-digest s Emit′.Inputs d e =
-    byTest (λ (x : Saying). x ≡ Says (Body′.Digest d) → Owed (s .owed) d) (λ _ q. let z : _≡_ {A = ℕ} 0 1 = cc in absurd (omega arith))
+    byTest (λ (x : Saying). x ≡ Says (Body′.Digest d) → Owed (s .owed) d)
+    (λ _ q. let z : _≡_ {A = ℕ} 0 1 = cc in absurd (omega arith))
     (λ _ q. let z : _≡_ {A = ℕ} 0 1 = cc in absurd (omega arith)) e
 says-digest s Emit′.Digest d e = from (s .owed) e
   where
@@ -76,7 +78,8 @@ says-digest s Emit′.Digest d e = from (s .owed) e
 says-digest s Emit′.Bye d e = let z : _≡_ {A = ℕ} 0 1 = cc in absurd (omega arith)
 says-digest s Emit′.Done d e = let z : _≡_ {A = ℕ} 0 1 = cc in absurd (omega arith)
 
-digest-sent : (s : Session) (k : ℕ) (m : Message) (d : DigestBody) → pump s .answer ≡ Send k m → m .body ≡ Body′.Digest d → Owed (s .owed) d
+digest-sent : (s : Session) (k : ℕ) (m : Message) (d : DigestBody) → pump s .answer ≡ Send k m
+    → m .body ≡ Body′.Digest d → Owed (s .owed) d
 unfolding quiet passEnds send
 digest-sent s k m d = from (pump-is s)
   where
@@ -93,19 +96,24 @@ module _ (p : SessionParams) (log : Log) (i : ℕ) (li : i < p .count) (s : Sess
   me : s .params .local ≡ i
   me = ap (λ (x : SessionParams). x .local) (h .base .par)
 
-  body-ok : (k : ℕ) (m : Message) → pump s .answer ≡ Send k m → (b : Body) → m .body ≡ b → BodyOk log i b (runOn b (pump s .run))
+  body-ok : (k : ℕ) (m : Message) → pump s .answer ≡ Send k m → (b : Body) → m .body ≡ b
+      → BodyOk log i b (runOn b (pump s .run))
   body-ok k m e (Body′.Hello b) q = tt
   body-ok k m e (Body′.Inputs b) q =
       let c = inputs-sent s k m b (h .base .ring .ok) e q in
       let w : b .width ≡ p .width = c .width ∙ ap (λ (x : SessionParams). x .width) (h .base .par) in
       λ j l.
-      let frame : frameAt (take (b .count * b .width) (pump s .run)) (b .width) j ≡ frameOf (s .window) i (b .first + j) (p .width) =
-      frame-front (pump s .run) (b .width) (b .count) j l ∙ c .frame j l ∙ ap (λ x. frameOf (s .window) x (b .first + j) (b .width)) me
+      let frame : frameAt (take (b .count * b .width) (pump s .run)) (b .width) j
+      ≡ frameOf (s .window) i (b .first + j) (p .width) =
+      frame-front (pump s .run) (b .width) (b .count) j l ∙ c .frame j l
+      ∙ ap (λ x. frameOf (s .window) x (b .first + j) (b .width)) me
       ∙ ap (frameOf (s .window) i (b .first + j)) w in
-      rw frame (h .base .ring .each i (b .first + j) (frameOf (s .window) i (b .first + j) (p .width)) li (record { held = rw me at (c .held j l); frame = refl }))
+      rw frame (h .base .ring .each i (b .first + j) (frameOf (s .window) i (b .first + j) (p .width)) li
+      (record { held = rw me at (c .held j l); frame = refl }))
   body-ok k m e (Body′.Digest d) q =
       let o = digest-sent s k m d e q in
-      subst (λ (x : ℕ). Said log i (d .tick) x) (o .state) (subst (λ (x : ℕ). Said log i x (o .print .state)) (o .tick) (h .base .prints .owes (o .print) (o .is)))
+      subst (λ (x : ℕ). Said log i (d .tick) x) (o .state)
+      (subst (λ (x : ℕ). Said log i x (o .print .state)) (o .tick) (h .base .prints .owes (o .print) (o .is)))
   body-ok k m e (Body′.Bye b) q = tt
   body-ok k m e (Body′.Other kind) q = tt
 

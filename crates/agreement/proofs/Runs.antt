@@ -1,5 +1,5 @@
--- Two runs, computed from the definitions, so that the theorem is seen not to be empty: one in which two sessions join, play, step and commit over
--- lost and repeated messages, and one in which a fork is found. Assumes nothing.
+-- Two runs, computed from the definitions, so that the theorem is seen not to be empty: one in which two sessions join,
+-- play, step and commit over lost and repeated messages, and one in which a fork is found. Assumes nothing.
 use Prim.Native.Nat.{ℕ}
 use mathlib.Core.Path.{_≡_, refl}
 use mathlib.Core.Bool.{true}
@@ -17,7 +17,8 @@ use Rattle.wire.specs.Wire.{helloForm, inputsForm, bodyForm, formOf}
 use Rattle.window.specs.Window.{freshWindow, heldBy, isHeld, frameOf, written, writeFrame}
 use Rattle.window.specs.Absorb.{sameBytes, absorbOne, frameAt, absorbFirst, absorbInputs}
 use Rattle.rows.specs.Rows.{padded, rowsOf, heads, stepDigest}
-use Rattle.fingerprint.specs.Cells.{ownCell, remoteCell, noPrints, cellAt, storedAt, own, remote, withOwn, withRemote, ofTick, ownFor, remoteFor}
+use Rattle.fingerprint.specs.Cells.{ownCell, remoteCell, noPrints, cellAt, storedAt, own}
+use Rattle.fingerprint.specs.Cells.{remote, withOwn, withRemote, ofTick, ownFor, remoteFor}
 use Rattle.fingerprint.specs.Judging.{agrees, allAgree, partedBy, parted, arrivalBy, arrival}
 use Rattle.stats.specs.Stats.{raisedIf, noStats, countedOf, repeatedOf}
 use Rattle.session.specs.declared.Outcome.{Outcome}
@@ -28,9 +29,14 @@ use Rattle.session.specs.declared.WorldDigest.the-variants.{Present}
 use Rattle.session.specs.Session.{fresh, isPlaying, everySeatHeld, ended, started}
 use Rattle.session.specs.Host.{opened, press, submitOpen, submitBy, submit}
 use Rattle.session.specs.Step.{takeStep, playOn, advanceBy, advanceFrom, advance, judge, keepDigest, commitFrom, commit}
-use Rattle.deliver.specs.Deliver.{refuse, endWith, acceptHello, noteAnswer, noted, framesTaken, absorb, judged, hearBy, hear, marked, accept, fromHeader, deliverForm, deliverBy, deliver}
-use Rattle.pump.specs.Pump.{nextRemote, targetOf, span, carried, noRun, runByte, runFrom, runOf, helloOf, inputsOf, digestOf, saying, addressed, sayTo, say, firstKind, quiet, passEnds, runBeside, send, sent, pumpDigest, pumpInputs, pumpHello, pumpFrom, pump}
-use Rattle.agreement.specs.World.{Event, pressed, stepped, committed, Call, submits, delivers, advances, commits, pumps, pressShown, submitTurn, deliverTurn, stepShown, advanceTurn, commitShown, commitTurn, mailed, pumpTurn, turn, seatOf, update, after, play, run}
+use Rattle.deliver.specs.Deliver.{refuse, endWith, acceptHello, noteAnswer, noted, framesTaken, absorb, judged}
+use Rattle.deliver.specs.Deliver.{hearBy, hear, marked, accept, fromHeader, deliverForm, deliverBy, deliver}
+use Rattle.pump.specs.Pump.{nextRemote, targetOf, span, carried, noRun, runByte, runFrom, runOf, helloOf}
+use Rattle.pump.specs.Pump.{inputsOf, digestOf, saying, addressed, sayTo, say, firstKind, quiet, passEnds}
+use Rattle.pump.specs.Pump.{runBeside, send, sent, pumpDigest, pumpInputs, pumpHello, pumpFrom, pump}
+use Rattle.agreement.specs.World.{Event, pressed, stepped, committed, Call, submits, delivers, advances, commits}
+use Rattle.agreement.specs.World.{pumps, pressShown, submitTurn, deliverTurn, stepShown, advanceTurn, commitShown}
+use Rattle.agreement.specs.World.{commitTurn, mailed, pumpTurn, turn, seatOf, update, after, play, run}
 
 -- two seats, a byte a tick, no delay, a digest for each tick
 abbrev pair : SessionParams
@@ -54,10 +60,12 @@ ending (Over (Desynced t)) = 1 ∷ t ∷ []
 ending (Over (PeerLeft k t)) = 2 ∷ []
 ending (Over (LeftLocally t)) = 3 ∷ []
 
--- the last call first. Each seat's first Hello is lost and its second arrives; both press; seat 1's Inputs comes twice; both step
+-- the last call first. Each seat's first Hello is lost and its second arrives; both press; seat 1's Inputs comes twice;
+-- both step
 join : List Call
 join =
-    advances 1 ∷ advances 0 ∷ delivers 1 1 ∷ delivers 0 0 ∷ delivers 0 0 ∷ pumps 1 ∷ pumps 0 ∷ submits 1 (0x42 ∷ []) ∷ submits 0 (0x41 ∷ [])
+    advances 1 ∷ advances 0 ∷ delivers 1 1 ∷ delivers 0 0 ∷ delivers 0 0 ∷ pumps 1 ∷ pumps 0
+    ∷ submits 1 (0x42 ∷ []) ∷ submits 0 (0x41 ∷ [])
     ∷ delivers 1 1 ∷ delivers 0 0 ∷ pumps 1 ∷ pumps 0 ∷ pumps 1 ∷ pumps 0 ∷ pumps 1 ∷ pumps 0 ∷ []
 
 -- both commit, and seat 0's digest reaches seat 1
@@ -74,15 +82,37 @@ digest = 7563201615092177098
 
 healthy :
     sameBytes (summary (committing 5 5))
-    (3 ∷ 1 ∷ 0 ∷ 5 ∷ 3 ∷ 0 ∷ 0 ∷ 5 ∷ 2 ∷ 1 ∷ 0 ∷ 0x41 ∷ 0x42 ∷ digest ∷ 2 ∷ 0 ∷ 0 ∷ 0x41 ∷ 0x42 ∷ digest ∷ 1 ∷ 1 ∷ 0 ∷ 0x42 ∷ 1 ∷ 0 ∷ 0 ∷ 0x41 ∷ 0 ∷ 0 ∷ [])
+    (3 ∷ 1 ∷ 0 ∷ 5 ∷ 3 ∷ 0 ∷ 0 ∷ 5 ∷ 2 ∷ 1 ∷ 0 ∷ 0x41 ∷ 0x42 ∷ digest ∷ 2 ∷ 0 ∷ 0 ∷ 0x41 ∷ 0x42 ∷ digest ∷ 1 ∷ 1 ∷ 0
+    ∷ 0x42 ∷ 1 ∷ 0 ∷ 0 ∷ 0x41 ∷ 0 ∷ 0 ∷ [])
     ≡ true
-unfolding bytesOf told ending join committing summary if_then_else_ outside raised fnv leBytes has setOf every firstSeats adding removing isSubset tabulate validity badState agreementBytes agreementOf rosterOf remotesOf helloForm inputsForm bodyForm formOf freshWindow heldBy isHeld frameOf written writeFrame sameBytes absorbOne frameAt absorbFirst absorbInputs padded rowsOf heads stepDigest ownCell remoteCell noPrints cellAt storedAt own remote withOwn withRemote ofTick ownFor remoteFor agrees allAgree partedBy parted arrivalBy arrival raisedIf noStats countedOf repeatedOf fresh isPlaying everySeatHeld ended started opened press submitOpen submitBy submit takeStep playOn advanceBy advanceFrom advance judge keepDigest commitFrom commit refuse endWith acceptHello noteAnswer noted framesTaken absorb judged hearBy hear marked accept fromHeader deliverForm deliverBy deliver nextRemote targetOf span carried noRun runByte runFrom runOf helloOf inputsOf digestOf saying addressed sayTo say firstKind quiet passEnds runBeside send sent pumpDigest pumpInputs pumpHello pumpFrom pump pressShown submitTurn deliverTurn stepShown advanceTurn commitShown commitTurn mailed pumpTurn turn seatOf update after play run
+unfolding bytesOf told ending join committing summary if_then_else_ outside raised fnv leBytes has setOf every
+    firstSeats adding removing isSubset tabulate validity badState agreementBytes agreementOf rosterOf remotesOf
+    helloForm inputsForm bodyForm formOf freshWindow heldBy isHeld frameOf written writeFrame sameBytes absorbOne
+    frameAt absorbFirst absorbInputs padded rowsOf heads stepDigest ownCell remoteCell noPrints cellAt storedAt own
+    remote withOwn withRemote ofTick ownFor remoteFor agrees allAgree partedBy parted arrivalBy arrival raisedIf noStats
+    countedOf repeatedOf fresh isPlaying everySeatHeld ended started opened press submitOpen submitBy submit takeStep
+    playOn advanceBy advanceFrom advance judge keepDigest commitFrom commit refuse endWith acceptHello noteAnswer noted
+    framesTaken absorb judged hearBy hear marked accept fromHeader deliverForm deliverBy deliver nextRemote targetOf
+    span carried noRun runByte runFrom runOf helloOf inputsOf digestOf saying addressed sayTo say firstKind quiet
+    passEnds runBeside send sent pumpDigest pumpInputs pumpHello pumpFrom pump pressShown submitTurn deliverTurn
+    stepShown advanceTurn commitShown commitTurn mailed pumpTurn turn seatOf update after play run
 healthy = refl
 
 -- the two commits differ, and seat 1, which hears of it, ends as desynced at tick 0
 fork :
     sameBytes (summary (committing 5 6))
-    (3 ∷ 1 ∷ 0 ∷ 6 ∷ 3 ∷ 0 ∷ 0 ∷ 5 ∷ 2 ∷ 1 ∷ 0 ∷ 0x41 ∷ 0x42 ∷ digest ∷ 2 ∷ 0 ∷ 0 ∷ 0x41 ∷ 0x42 ∷ digest ∷ 1 ∷ 1 ∷ 0 ∷ 0x42 ∷ 1 ∷ 0 ∷ 0 ∷ 0x41 ∷ 0 ∷ 1 ∷ 0 ∷ [])
+    (3 ∷ 1 ∷ 0 ∷ 6 ∷ 3 ∷ 0 ∷ 0 ∷ 5 ∷ 2 ∷ 1 ∷ 0 ∷ 0x41 ∷ 0x42 ∷ digest ∷ 2 ∷ 0 ∷ 0 ∷ 0x41 ∷ 0x42 ∷ digest ∷ 1 ∷ 1 ∷ 0
+    ∷ 0x42 ∷ 1 ∷ 0 ∷ 0 ∷ 0x41 ∷ 0 ∷ 1 ∷ 0 ∷ [])
     ≡ true
-unfolding bytesOf told ending join committing summary if_then_else_ outside raised fnv leBytes has setOf every firstSeats adding removing isSubset tabulate validity badState agreementBytes agreementOf rosterOf remotesOf helloForm inputsForm bodyForm formOf freshWindow heldBy isHeld frameOf written writeFrame sameBytes absorbOne frameAt absorbFirst absorbInputs padded rowsOf heads stepDigest ownCell remoteCell noPrints cellAt storedAt own remote withOwn withRemote ofTick ownFor remoteFor agrees allAgree partedBy parted arrivalBy arrival raisedIf noStats countedOf repeatedOf fresh isPlaying everySeatHeld ended started opened press submitOpen submitBy submit takeStep playOn advanceBy advanceFrom advance judge keepDigest commitFrom commit refuse endWith acceptHello noteAnswer noted framesTaken absorb judged hearBy hear marked accept fromHeader deliverForm deliverBy deliver nextRemote targetOf span carried noRun runByte runFrom runOf helloOf inputsOf digestOf saying addressed sayTo say firstKind quiet passEnds runBeside send sent pumpDigest pumpInputs pumpHello pumpFrom pump pressShown submitTurn deliverTurn stepShown advanceTurn commitShown commitTurn mailed pumpTurn turn seatOf update after play run
+unfolding bytesOf told ending join committing summary if_then_else_ outside raised fnv leBytes has setOf every
+    firstSeats adding removing isSubset tabulate validity badState agreementBytes agreementOf rosterOf remotesOf
+    helloForm inputsForm bodyForm formOf freshWindow heldBy isHeld frameOf written writeFrame sameBytes absorbOne
+    frameAt absorbFirst absorbInputs padded rowsOf heads stepDigest ownCell remoteCell noPrints cellAt storedAt own
+    remote withOwn withRemote ofTick ownFor remoteFor agrees allAgree partedBy parted arrivalBy arrival raisedIf noStats
+    countedOf repeatedOf fresh isPlaying everySeatHeld ended started opened press submitOpen submitBy submit takeStep
+    playOn advanceBy advanceFrom advance judge keepDigest commitFrom commit refuse endWith acceptHello noteAnswer noted
+    framesTaken absorb judged hearBy hear marked accept fromHeader deliverForm deliverBy deliver nextRemote targetOf
+    span carried noRun runByte runFrom runOf helloOf inputsOf digestOf saying addressed sayTo say firstKind quiet
+    passEnds runBeside send sent pumpDigest pumpInputs pumpHello pumpFrom pump pressShown submitTurn deliverTurn
+    stepShown advanceTurn commitShown commitTurn mailed pumpTurn turn seatOf update after play run
 fork = refl

@@ -1,6 +1,6 @@
--- Demand 3's runs: "lists of calls, each on the state that the same session's last call handed back; a delivery gives any message that an earlier
--- call of the list made, as often as you like". What is pressed, stepped and committed is taken from the calls' answers.
--- Assumes nothing.
+-- Demand 3's runs: "lists of calls, each on the state that the same session's last call handed back; a delivery gives
+-- any message that an earlier call of the list made, as often as you like". What is pressed, stepped and committed is
+-- taken from the calls' answers. Assumes nothing.
 use Prim.Native.Nat.{ℕ, _*_}
 use mathlib.Core.Bool.{Bool}
 use mathlib.Core.List.{List, [], _∷_, _++_}
@@ -36,7 +36,17 @@ use Rattle.pump.specs.Pump.{pump}
 
 -- equal parameters except the seat
 abbrev pub seated : SessionParams → ℕ → SessionParams
-seated p i = record { count = p .count; local = i; width = p .width; delay = p .delay; period = p .period; seed = p .seed; content = p .content; rules = p .rules; session = p .session }
+seated p i = record {
+  count = p .count;
+  local = i;
+  width = p .width;
+  delay = p .delay;
+  period = p .period;
+  seed = p .seed;
+  content = p .content;
+  rules = p .rules;
+  session = p .session;
+}
 
 -- a message that a pump made, with its true source and the bytes of its run
 pub record Mail : Type 0 where
@@ -44,7 +54,8 @@ pub record Mail : Type 0 where
   pub message : Message
   pub run : List ℕ
 
--- what a call's answer shows: an accepted press, a step with its rows and the input digest that it leaves, a world digest committed
+-- what a call's answer shows: an accepted press, a step with its rows and the input digest that it leaves, a world
+-- digest committed
 pub data Event : Type 0 where
   pressed : (seat tick : ℕ) → List ℕ → Event
   stepped : (seat tick : ℕ) → List (List ℕ) → (digest : ℕ) → Event
@@ -58,8 +69,8 @@ pub record World : Type 0 where
 
 -- ---- calls
 
--- each names the seat whose session is called; a delivery, the place of a message among those made so far. `asks` is any call that changes nothing:
--- a report, `wants_local`, a field that is shown
+-- each names the seat whose session is called; a delivery, the place of a message among those made so far. `asks` is
+-- any call that changes nothing: a report, `wants_local`, a field that is shown
 pub data Call : Type 0 where
   submits : ℕ → List ℕ → Call
   delivers : ℕ → ℕ → Call
@@ -100,7 +111,8 @@ stepShown i rows digest (Advance′.Ended o) = []
 stepShown i rows digest Advance′.BadState = []
 
 unfoldable pub advanceTurn : ℕ → Advanced → Turn
-advanceTurn i r = record { session = r .session; sends = []; shows = stepShown i (r .frames .rows) (r .session .digest) (r .answer) }
+advanceTurn i r =
+    record { session = r .session; sends = []; shows = stepShown i (r .frames .rows) (r .session .digest) (r .answer) }
 
 unfoldable pub commitShown : ℕ → ℕ → WorldDigest → Commit → List Event
 commitShown i tick (Present state) Commit′.Done = committed i tick state ∷ []
@@ -121,7 +133,8 @@ runOn (Body′.Bye b) run = []
 runOn (Body′.Other kind) run = []
 
 unfoldable pub mailed : ℕ → Outbound → List ℕ → List Mail
-mailed i (Outbound′.Send peer message) run = record { source = i; message = message; run = runOn (message .body) run } ∷ []
+mailed i (Outbound′.Send peer message) run =
+    record { source = i; message = message; run = runOn (message .body) run } ∷ []
 mailed i Outbound′.Nothing run = []
 mailed i Outbound′.BadState run = []
 

@@ -1,6 +1,6 @@
--- Document 01, "Both sides of each limit": the cases P1 to P10 in its order, as one table, with a row for each side of a limit. What is computed
--- is computed from the definitions that the calls are promised to meet, and every session is grown by such calls from `opened`.
--- Assumes nothing.
+-- Document 01, "Both sides of each limit": the cases P1 to P10 in its order, as one table, with a row for each side of
+-- a limit. What is computed is computed from the definitions that the calls are promised to meet, and every session is
+-- grown by such calls from `opened`. Assumes nothing.
 use Prim.Native.Nat.{ℕ, zero, suc}
 use mathlib.Core.List.{List, [], _∷_}
 use Rattle.hash.specs.Fnv.{start, fnv}
@@ -27,7 +27,17 @@ use Rattle.deliver.specs.Deliver.{deliver}
 
 -- seat 0 of a circle that presses one byte a tick, with case R's session number
 abbrev pub circle : (count delay period : ℕ) → SessionParams
-circle count delay period = record { count = count; local = 0; width = 1; delay = delay; period = period; seed = 0; content = 0; rules = 0; session = 9 }
+circle count delay period = record {
+  count = count;
+  local = 0;
+  width = 1;
+  delay = delay;
+  period = period;
+  seed = 0;
+  content = 0;
+  rules = 0;
+  session = 9;
+}
 
 -- two seats, no delay, a digest for each tick
 abbrev pub pair : SessionParams
@@ -42,7 +52,17 @@ hears s body run = deliver s 1 (record { sender = 1; session = 9; body = body })
 
 -- its Hello, over the same parameters
 abbrev pub greeted : Session → Session
-greeted s = hears s (Hello (record { agreement = agreementOf pair; content = 0; rules = 0; seed = 0; count = 2; width = 1; delay = 0; period = 1 })) [] .session
+greeted s =
+    hears s (Hello (record {
+      agreement = agreementOf pair;
+      content = 0;
+      rules = 0;
+      seed = 0;
+      count = 2;
+      width = 1;
+      delay = 0;
+      period = 1;
+    })) [] .session
 
 -- its presses for `count` ticks from the first on, a byte each
 abbrev pub sends : Session → (first count : ℕ) → List ℕ → Delivered
@@ -71,8 +91,8 @@ played (suc n) = stepped (pressed (played n) n) n
 abbrev pub openNo : (count delay period : ℕ) → ℕ
 openNo count delay period = validityNo (opened (circle count delay period) .answer)
 
--- of a delivery: pending, the answer; `datagrams_refused`, `frames_repeated`, `frames_contradicted`, `frames_out_of_window`; and 1 if seat 1's
--- frame for the tick is held afterwards
+-- of a delivery: pending, the answer; `datagrams_refused`, `frames_repeated`, `frames_contradicted`,
+-- `frames_out_of_window`; and 1 if seat 1's frame for the tick is held afterwards
 abbrev pub counted : Delivered → ℕ → List ℕ
 counted d tick =
     d .session .pending ∷ deliveryNo (d .answer)
@@ -124,10 +144,12 @@ table =
     -- P4 the same frame twice: 0, one repeat
     ∷ row 4 (counted (sends new 0 1 (0x42 ∷ [])) 0) (0 ∷ 0 ∷ 0 ∷ 0 ∷ 0 ∷ 0 ∷ 1 ∷ [])
     ∷ row 4 (counted (sends once 0 1 (0x42 ∷ [])) 0) (0 ∷ 0 ∷ 0 ∷ 1 ∷ 0 ∷ 0 ∷ 1 ∷ [])
-    -- P5 tick 0 contradicted, tick 1 new: 0, refused 1, contradicted 1. With nothing new it is 28, and the bytes that came first stand: they repeat
+    -- P5 tick 0 contradicted, tick 1 new: 0, refused 1, contradicted 1. With nothing new it is 28, and the bytes that
+    -- came first stand: they repeat
     ∷ row 5 (counted (sends once 0 2 (0x43 ∷ 0x44 ∷ [])) 1) (0 ∷ 0 ∷ 1 ∷ 0 ∷ 1 ∷ 0 ∷ 1 ∷ [])
     ∷ row 5 (counted (sends once 0 1 (0x43 ∷ [])) 1) (0 ∷ 28 ∷ 1 ∷ 0 ∷ 1 ∷ 0 ∷ 0 ∷ [])
-    ∷ row 5 (counted (sends (sends once 0 2 (0x43 ∷ 0x44 ∷ []) .session) 0 2 (0x42 ∷ 0x44 ∷ [])) 1) (0 ∷ 0 ∷ 1 ∷ 2 ∷ 1 ∷ 0 ∷ 1 ∷ [])
+    ∷ row 5 (counted (sends (sends once 0 2 (0x43 ∷ 0x44 ∷ []) .session) 0 2 (0x42 ∷ 0x44 ∷ [])) 1)
+    (0 ∷ 0 ∷ 1 ∷ 2 ∷ 1 ∷ 0 ∷ 1 ∷ [])
     -- P6 pending 3, frame for 2: 0, no counter. At pending 2 the same frame is 28
     ∷ row 6 (counted (sends (played 3) 2 1 (0x43 ∷ [])) 2) (3 ∷ 0 ∷ 0 ∷ 0 ∷ 0 ∷ 0 ∷ 1 ∷ [])
     ∷ row 6 (counted (sends (pressed (played 2) 2) 2 1 (0x43 ∷ [])) 2) (2 ∷ 28 ∷ 1 ∷ 0 ∷ 1 ∷ 0 ∷ 1 ∷ [])

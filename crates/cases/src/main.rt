@@ -1,5 +1,6 @@
-// Document 01's cases P1 to P10 through the code: a line for each row of the table in specs/Cases.antt, with the case and the row's numbers. The
-// file stdout beside src/ is written from document 01, not from what this program once printed.
+// Document 01's cases P1 to P10 through the code: a line for each row of the table in specs/Cases.antt, with the case
+// and the row's numbers. The file stdout beside src/ is written from document 01, not from what this program once
+// printed.
 use deliver::Delivered;
 use hash::StateHash;
 use params::SessionParams;

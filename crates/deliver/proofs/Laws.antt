@@ -1,6 +1,6 @@
--- What a reader of the rules wants to see said of a delivery: 20 and an ended session change nothing at all, a refusal changes nothing but the
--- counters and the sender's playing mark, the first outcome stays, no counter falls, and a frame that is held is never overwritten.
--- Assumes nothing.
+-- What a reader of the rules wants to see said of a delivery: 20 and an ended session change nothing at all, a refusal
+-- changes nothing but the counters and the sender's playing mark, the first outcome stays, no counter falls, and a
+-- frame that is held is never overwritten. Assumes nothing.
 use Prim.Native.Nat.{ℕ, _+_, _≤_, _<_}
 use mathlib.Core.Path.{_≡_, refl, sym, ap, _∙_}
 use mathlib.Core.List.{List}
@@ -46,16 +46,19 @@ use Rattle.deliver.specs.declared.Delivery.{Delivery}
 use Rattle.deliver.specs.declared.Delivery.the-variants.{Accepted, Ended, BadState, Refused}
 use Rattle.deliver.specs.declared.Delivered.{Delivered}
 use Rattle.deliver.specs.Numbers.{refusalNo}
-use Rattle.deliver.specs.Deliver.{delivered, refuse, endWith, acceptHello, noteAnswer, noted, framesTaken, absorb, judged, hearBy, hear, marked, accept, fromHeader, deliverForm, deliverBy, deliver}
+use Rattle.deliver.specs.Deliver.{delivered, refuse, endWith, acceptHello, noteAnswer, noted}
+use Rattle.deliver.specs.Deliver.{framesTaken, absorb, judged, hearBy, hear, marked, accept}
+use Rattle.deliver.specs.Deliver.{fromHeader, deliverForm, deliverBy, deliver}
 
 -- ---- 20 and an ended session: nothing changes
 
-pub deliver-bad : (s : Session) (source : ℕ) (m : Message) (run : List ℕ) → badState (s .params) ≡ true → deliver s source m run ≡ delivered s BadState
+pub deliver-bad : (s : Session) (source : ℕ) (m : Message) (run : List ℕ) → badState (s .params) ≡ true
+    → deliver s source m run ≡ delivered s BadState
 unfolding deliver
 deliver-bad s source m run bad = if-true _ _ bad
 
-pub deliver-ended : (s : Session) (source : ℕ) (m : Message) (run : List ℕ) (o : Outcome) → badState (s .params) ≡ false → s .outcome ≡ Over o
-    → deliver s source m run ≡ delivered s (Ended o)
+pub deliver-ended : (s : Session) (source : ℕ) (m : Message) (run : List ℕ) (o : Outcome) → badState (s .params) ≡ false
+    → s .outcome ≡ Over o → deliver s source m run ≡ delivered s (Ended o)
 unfolding deliver deliverBy
 deliver-ended s source m run o good e = if-false _ _ good ∙ ap (deliverBy s source m run) e
 
@@ -85,7 +88,14 @@ pub record OfDelivery (s : Session) (r : Delivered) : Type 0 where
   pub window : WindowOf s (r .session .window)
 
 abbrev rises-not : (c : SessionStats) → Each _≤_ c c
-rises-not c = record { refused = omega arith; repeated = omega arith; contradicted = omega arith; beyond = omega arith; digests = omega arith; stalls = omega arith }
+rises-not c = record {
+  refused = omega arith;
+  repeated = omega arith;
+  contradicted = omega arith;
+  beyond = omega arith;
+  digests = omega arith;
+  stalls = omega arith;
+}
 
 rises-then : {a b c : SessionStats} → Each _≤_ a b → Each _≤_ b c → Each _≤_ a c
 rises-then {a} {b} {c} f g = record {
@@ -103,8 +113,10 @@ record Alike (s t : Session) : Type 0 where
   window : t .window ≡ s .window
 
 -- an answer that is no refusal, over a session like it
-calm : {s : Session} (t : Session) (a : Delivery) → ((x : Refusal) → a ≡ Refused x → ⊥) → Alike s t → OfDelivery s (delivered t a)
-calm {s} t a n e = record { refused = λ x q. absurd (n x q); rises = rw (e .stats) (rises-not (s .stats)); window = same (e .window) }
+calm : {s : Session} (t : Session) (a : Delivery) → ((x : Refusal) → a ≡ Refused x → ⊥) → Alike s t
+    → OfDelivery s (delivered t a)
+calm {s} t a n e =
+    record { refused = λ x q. absurd (n x q); rises = rw (e .stats) (rises-not (s .stats)); window = same (e .window) }
 
 -- ending and starting a session leave both
 ended-alike : (s t : Session) (o : Outcome) → Alike s t → Alike s (ended t o)
@@ -125,7 +137,8 @@ not-bad : (x : Refusal) → BadState ≡ Refused x → ⊥
 not-bad x e = let z : _≡_ {A = ℕ} 0 1 = cc in omega arith
 
 -- a refusal over a session that differs in the marks and counters alone
-refuse-of : {s : Session} (seen : ℕ) (c : SessionStats) (x : Refusal) → Each _≤_ (s .stats) c → Fit c → OfDelivery s (refuse (withStats (withSeen s seen) c) x)
+refuse-of : {s : Session} (seen : ℕ) (c : SessionStats) (x : Refusal) → Each _≤_ (s .stats) c → Fit c
+    → OfDelivery s (refuse (withStats (withSeen s seen) c) x)
 unfolding refuse
 refuse-of seen c x f fit = record {
   refused = λ _ _. record { seen = seen; stats = countedOf c (refusalNo x); is = refl };
@@ -143,23 +156,40 @@ module _ (s : Session) (fit : Fit (s .stats)) where
 
   hello-of : (sender : ℕ) (h : HelloBody) → OfDelivery s (acceptHello s sender h)
   unfolding acceptHello
-  hello-of sender h = byTest (OfDelivery s) (λ _. calm {s = s} _ Accepted not-accepted (started-alike s _ (record { stats = refl; window = refl }))) (λ _. plain-refusal _)
+  hello-of sender h =
+      byTest (OfDelivery s) (λ _. calm {s = s} _ Accepted not-accepted
+      (started-alike s _ (record { stats = refl; window = refl }))) (λ _. plain-refusal _)
 
 -- ---- frames
 
 repeated-rises : (c : SessionStats) (n : ℕ) → c .«frames_repeated» ≤ n → Each _≤_ c (repeatedOf c n)
 unfolding repeatedOf
-repeated-rises c n h = record { refused = omega arith; repeated = h; contradicted = omega arith; beyond = omega arith; digests = omega arith; stalls = omega arith }
+repeated-rises c n h = record {
+  refused = omega arith;
+  repeated = h;
+  contradicted = omega arith;
+  beyond = omega arith;
+  digests = omega arith;
+  stalls = omega arith;
+}
 
 repeated-fits : (c : SessionStats) (n : ℕ) → n ≤ most → Fit c → Fit (repeatedOf c n)
 unfolding repeatedOf
-repeated-fits c n h f = record { refused = f .refused; repeated = h; contradicted = f .contradicted; beyond = f .beyond; digests = f .digests; stalls = f .stalls }
+repeated-fits c n h f = record {
+  refused = f .refused;
+  repeated = h;
+  contradicted = f .contradicted;
+  beyond = f .beyond;
+  digests = f .digests;
+  stalls = f .stalls;
+}
 
 -- a note's refusal, where nothing was written and where something was
-note-of : {s : Session} (r : Delivered) (wrote : Bool) → Each _≤_ (s .stats) (r .session .stats) → WindowOf s (r .session .window)
-    → (wrote ≡ false → OfDelivery s r) → OfDelivery s (noteAnswer r wrote)
+note-of : {s : Session} (r : Delivered) (wrote : Bool) → Each _≤_ (s .stats) (r .session .stats)
+    → WindowOf s (r .session .window) → (wrote ≡ false → OfDelivery s r) → OfDelivery s (noteAnswer r wrote)
 unfolding noteAnswer
-note-of {s} r wrote rises window f = byTest (OfDelivery s) (λ _. record { refused = λ x q. absurd (not-accepted x q); rises = rises; window = window }) f
+note-of {s} r wrote rises window f =
+    byTest (OfDelivery s) (λ _. record { refused = λ x q. absurd (not-accepted x q); rises = rises; window = window }) f
 
 refuse-window : (s t : Session) (x : Refusal) → WindowOf s (t .window) → WindowOf s (refuse t x .session .window)
 unfolding refuse
@@ -186,18 +216,25 @@ module _ (s : Session) (fit : Fit (s .stats)) (sender : ℕ) where
 
     unwritten-refusal : (x : Refusal) → a .wrote ≡ false → OfDelivery s (refuse taken x)
     unfolding marked
-    unwritten-refusal x e = rw (unwritten e) (refuse-of _ (repeatedOf (s .stats) (a .repeated)) x (repeated-rises (s .stats) (a .repeated) rises) (repeated-fits (s .stats) (a .repeated) fits fit))
+    unwritten-refusal x e =
+        rw (unwritten e) (refuse-of _ (repeatedOf (s .stats) (a .repeated)) x
+        (repeated-rises (s .stats) (a .repeated) rises) (repeated-fits (s .stats) (a .repeated) fits fit))
 
     noted-refusal : (x : Refusal) → OfDelivery s (noteAnswer (refuse taken x) (a .wrote))
     noted-refusal x =
         note-of (refuse taken x) (a .wrote)
-        (rises-then (repeated-rises (s .stats) (a .repeated) rises) (refuse-rises taken x (repeated-fits (s .stats) (a .repeated) fits fit)))
+        (rises-then (repeated-rises (s .stats) (a .repeated) rises)
+        (refuse-rises taken x (repeated-fits (s .stats) (a .repeated) fits fit)))
         (refuse-window s taken x window)
         (unwritten-refusal x)
 
     noted-of : (note : Note) → OfDelivery s (noted taken note (a .wrote))
     unfolding noted
-    noted-of Note′.Nothing = record { refused = λ x q. absurd (not-accepted x q); rises = repeated-rises (s .stats) (a .repeated) rises; window = window }
+    noted-of Note′.Nothing = record {
+      refused = λ x q. absurd (not-accepted x q);
+      rises = repeated-rises (s .stats) (a .repeated) rises;
+      window = window;
+    }
     noted-of (Note′.OutOfWindow tick pending) = noted-refusal _
     noted-of (Note′.Contradiction peer tick) = noted-refusal _
 
@@ -206,8 +243,10 @@ module _ (s : Session) (fit : Fit (s .stats)) (sender : ℕ) where
   inputs-of i run low =
       let a = absorbInputs (s .window) (s .stats .«frames_repeated») (s .pending) sender i run in
       byTest (OfDelivery s)
-      (λ agreed. noted-of a (repeats-rise (s .window) _ (s .pending) sender i run (fit .repeated)) (repeats-fit (s .window) _ (s .pending) sender i run (fit .repeated))
-      (unwritten (s .window) _ (s .pending) sender i run (fit .repeated)) (took sender i run low (eqb-true (i .width) (s .params .width) agreed) refl) (a .note))
+      (λ agreed. noted-of a (repeats-rise (s .window) _ (s .pending) sender i run (fit .repeated))
+      (repeats-fit (s .window) _ (s .pending) sender i run (fit .repeated))
+      (unwritten (s .window) _ (s .pending) sender i run (fit .repeated))
+      (took sender i run low (eqb-true (i .width) (s .params .width) agreed) refl) (a .note))
       (λ _. marked-refusal _)
 
   -- ---- a Digest
@@ -242,13 +281,17 @@ roster-low : (p : SessionParams) (k : ℕ) → not (has (rosterOf p) k) ≡ fals
 unfolding rosterOf firstSeats
 roster-low p k e =
     caseLt k seats (λ l. l)
-    (λ l. absurd (true≢false (sym (not-false (has (rosterOf p) k) e) ∙ has-none seats (rosterOf p) k (setOf-lt seats _) l)))
+    (λ l. absurd
+    (true≢false (sym (not-false (has (rosterOf p) k) e) ∙ has-none seats (rosterOf p) k (setOf-lt seats _) l)))
 
-inputs-keep : (pending r u : ℕ) (frame : List ℕ) → r < seats → pending ≤ u → u < pending + window → (w : Window) (repeated sender : ℕ) (i : InputsBody) (run : List ℕ) (n : ℕ)
-    → i .width ≡ n → n ≤ maxWidth → sender < seats → Kept pending n r u frame w → Kept pending n r u frame (absorbInputs w repeated pending sender i run .window)
+inputs-keep : (pending r u : ℕ) (frame : List ℕ) → r < seats → pending ≤ u → u < pending + window
+    → (w : Window) (repeated sender : ℕ) (i : InputsBody) (run : List ℕ) (n : ℕ)
+    → i .width ≡ n → n ≤ maxWidth → sender < seats → Kept pending n r u frame w
+    → Kept pending n r u frame (absorbInputs w repeated pending sender i run .window)
 unfolding absorbInputs
 inputs-keep pending r u frame low least greatest w repeated sender i run n e narrow fits k =
-    rw e (first-write-wins pending n r u frame low narrow least greatest (untouched w repeated) sender (i .first) run (i .count) fits k)
+    rw e (first-write-wins pending n r u frame low narrow least greatest (untouched w repeated) sender
+    (i .first) run (i .count) fits k)
 
 module _ (s : Session) (fit : Fit (s .stats)) (source : ℕ) (m : Message) (run : List ℕ) where
   header-of : OfDelivery s (fromHeader s source m run)
@@ -272,7 +315,9 @@ module _ (s : Session) (fit : Fit (s .stats)) (source : ℕ) (m : Message) (run 
 
   pub of-delivery : OfDelivery s (deliver s source m run)
   unfolding deliver
-  of-delivery = byTest (OfDelivery s) (λ _. calm {s = s} s BadState not-bad record { stats = refl; window = refl }) (λ _. standing-of (s .outcome))
+  of-delivery =
+      byTest (OfDelivery s) (λ _. calm {s = s} s BadState not-bad record { stats = refl; window = refl })
+      (λ _. standing-of (s .outcome))
 
   -- ---- a frame that is held at or above pending is never overwritten
 
@@ -286,5 +331,8 @@ module _ (s : Session) (fit : Fit (s .stats)) (source : ℕ) (m : Message) (run 
       from w (took sender i frames fits width e) = rw e (kept sender i frames fits width)
         where
           kept : (sender : ℕ) (i : InputsBody) (frames : List ℕ) → sender < seats → i .width ≡ s .params .width
-              → Kept (s .pending) (s .params .width) r u frame (absorbInputs (s .window) (s .stats .«frames_repeated») (s .pending) sender i frames .window)
-          kept sender i frames fits width = inputs-keep (s .pending) r u frame low least greatest (s .window) (s .stats .«frames_repeated») sender i frames (s .params .width) width (ok .width .greatest) fits k
+              → Kept (s .pending) (s .params .width) r u frame
+              (absorbInputs (s .window) (s .stats .«frames_repeated») (s .pending) sender i frames .window)
+          kept sender i frames fits width =
+              inputs-keep (s .pending) r u frame low least greatest (s .window) (s .stats .«frames_repeated») sender i
+              frames (s .params .width) width (ok .width .greatest) fits k

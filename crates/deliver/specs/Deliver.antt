@@ -1,6 +1,5 @@
--- Document 01, the order of a delivery's answers and what each changes: 20 first; then a standing outcome, 1, even for a malformed record, with
--- nothing changed; then 21 to 31 in the table's order.
--- Assumes nothing.
+-- Document 01, the order of a delivery's answers and what each changes: 20 first; then a standing outcome, 1, even for
+-- a malformed record, with nothing changed; then 21 to 31 in the table's order. Assumes nothing.
 use Prim.Native.Nat.{ℕ}
 use mathlib.Core.Bool.{Bool, not}
 use mathlib.Core.List.{List}
@@ -34,7 +33,9 @@ use Rattle.session.specs.declared.Standing.{Standing}
 use Rattle.session.specs.declared.Standing.the-variants.{Open, Over}
 use Rattle.session.specs.declared.Session.{Session}
 use Rattle.deliver.specs.declared.Refusal.{Refusal}
-use Rattle.deliver.specs.declared.Refusal.the-variants.{Malformed, WrongSession, SenderNotSource, FromSelf, NotInRoster, Disagreement, OutOfWindow, Contradiction, WrongWidth, DigestContradiction, NotSessionTraffic}
+use Rattle.deliver.specs.declared.Refusal.the-variants.{Malformed, WrongSession, SenderNotSource, FromSelf}
+use Rattle.deliver.specs.declared.Refusal.the-variants.{NotInRoster, Disagreement, OutOfWindow, Contradiction}
+use Rattle.deliver.specs.declared.Refusal.the-variants.{WrongWidth, DigestContradiction, NotSessionTraffic}
 use Rattle.deliver.specs.declared.Delivery.{Delivery}
 use Rattle.deliver.specs.declared.Delivery.the-variants.{Accepted, Ended, BadState, Refused}
 use Rattle.deliver.specs.declared.Delivered.{Delivered}
@@ -60,7 +61,8 @@ acceptHello s sender h =
     then delivered (started (withHellos s (adding seats (s .hellos) sender))) Accepted
     else refuse s (Disagreement (h .agreement) (agreementOf (s .params)))
 
--- only the last note counts: with nothing written it is the answer; otherwise the answer is 0 and the counters still rise
+-- only the last note counts: with nothing written it is the answer; otherwise the answer is 0 and the counters still
+-- rise
 unfoldable pub noteAnswer : Delivered → Bool → Delivered
 noteAnswer refused wrote = if wrote then delivered (refused .session) Accepted else refused
 
@@ -84,9 +86,11 @@ printOf d = record { tick = d .tick; state = d .state; input = d .input }
 
 -- judged upon a newly stored Digest: a difference ends the session
 unfoldable pub judged : Session → ℕ → Delivered
-judged s tick = if parted (s .prints) (remotesOf (s .params)) tick then endWith s (Desynced tick) else delivered s Accepted
+judged s tick =
+    if parted (s .prints) (remotesOf (s .params)) tick then endWith s (Desynced tick) else delivered s Accepted
 
--- 30 the cell holds this tick with other values; an equal repeat is accepted unjudged; any other goes in its sender's cell
+-- 30 the cell holds this tick with other values; an equal repeat is accepted unjudged; any other goes in its sender's
+-- cell
 unfoldable pub hearBy : Session → ℕ → DigestBody → Arrival → Delivered
 hearBy s sender d Contradicted = refuse s (DigestContradiction sender (d .tick))
 hearBy s sender d Repeated = delivered s Accepted
@@ -99,7 +103,8 @@ hear s sender d = hearBy s sender d (arrival (s .prints) sender (printOf d))
 unfoldable pub marked : Session → ℕ → Session
 marked s sender = withSeen s (adding seats (s .seen) sender)
 
--- Inputs and Digest set the sender's playing mark, also when they are then refused; a Bye ends the session; 31 the others
+-- Inputs and Digest set the sender's playing mark, also when they are then refused; a Bye ends the session; 31 the
+-- others
 unfoldable pub accept : Session → ℕ → Body → List ℕ → Delivered
 accept s sender (Body′.Hello h) run = acceptHello s sender h
 accept s sender (Body′.Inputs i) run = absorb (marked s sender) sender i run

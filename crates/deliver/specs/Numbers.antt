@@ -2,7 +2,9 @@
 -- Assumes nothing.
 use Prim.Native.Nat.{ℕ}
 use Rattle.deliver.specs.declared.Refusal.{Refusal}
-use Rattle.deliver.specs.declared.Refusal.the-variants.{Malformed, WrongSession, SenderNotSource, FromSelf, NotInRoster, Disagreement, OutOfWindow, Contradiction, WrongWidth, DigestContradiction, NotSessionTraffic}
+use Rattle.deliver.specs.declared.Refusal.the-variants.{Malformed, WrongSession, SenderNotSource, FromSelf}
+use Rattle.deliver.specs.declared.Refusal.the-variants.{NotInRoster, Disagreement, OutOfWindow, Contradiction}
+use Rattle.deliver.specs.declared.Refusal.the-variants.{WrongWidth, DigestContradiction, NotSessionTraffic}
 use Rattle.deliver.specs.declared.Delivery.{Delivery}
 use Rattle.deliver.specs.declared.Delivery.the-variants.{Accepted, Ended, BadState, Refused}
 

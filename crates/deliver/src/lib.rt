@@ -1,4 +1,5 @@
-// A message comes in: the checks of its form and its header, then what its kind does to the session. Every refusal is counted.
+// A message comes in: the checks of its form and its header, then what its kind does to the session. Every refusal is
+// counted.
 ghost use mathlib.Core.Path.{_≡_};
 ghost use Prim.Native.Nat.{_<_};
 ghost use lib.ListN.{length};
@@ -7,7 +8,8 @@ ghost use Rattle.wire.specs.Wire.{inputsForm, bodyForm, formOf};
 ghost use Rattle.wire.specs.declared.Form.the-variants.{Good};
 ghost use Rattle.deliver.specs.Numbers.{refusalNo, deliveryNo};
 ghost use Rattle.deliver.specs.declared.Delivery.the-variants.{Accepted};
-ghost use Rattle.deliver.specs.Deliver.{delivered, refuse, endWith, acceptHello, noteAnswer, noted, absorb, judged, hear, marked, accept, fromHeader, deliver};
+ghost use Rattle.deliver.specs.Deliver.{delivered, refuse, endWith, acceptHello, noteAnswer, noted};
+ghost use Rattle.deliver.specs.Deliver.{absorb, judged, hear, marked, accept, fromHeader, deliver};
 use fingerprint::Arrival;
 use fingerprint::Fingerprint;
 use peer::PeerSet;
@@ -91,7 +93,8 @@ impl Delivery {
     }
 }
 
-// The counters of a refusal go through the one function that is lent them for change (`stats::record_refusal`, by `stats::refused`).
+// The counters of a refusal go through the one function that is lent them for change (`stats::record_refusal`, by
+// `stats::refused`).
 fn refuse(mut s: Session, refusal: Refusal) -> Delivered
     ensures { λ r. ⌜ r ≡ refuse s refusal ⌝ }
 {

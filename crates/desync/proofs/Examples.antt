@@ -1,5 +1,5 @@
--- Worked examples, computed from the definitions: the whole text of a report of four, with its two dissenters, and both sides of the limit of 62.
--- Assumes nothing.
+-- Worked examples, computed from the definitions: the whole text of a report of four, with its two dissenters, and both
+-- sides of the limit of 62. Assumes nothing.
 use Prim.Native.Nat.{ℕ}
 use mathlib.Core.Path.{_≡_, refl}
 use mathlib.Core.List.{List, [], _∷_}
@@ -16,7 +16,8 @@ use Rattle.desync.specs.declared.Sought.the-variants.{Desynced}
 use Rattle.desync.specs.declared.WriteReport.{WriteReport}
 use Rattle.desync.specs.declared.WriteReport.the-variants.{NoRoom, Written}
 use Rattle.desync.specs.Report.{othersOf, differs, dissentersOf, inputsAgree, isWitnessed}
-use Rattle.desync.specs.Json.{flagText, digestText, seatDigest, tickText, comma, seatList, peerText, peerList, headText, verdictText, ownText, listsText, agreedText, statsText, reportText}
+use Rattle.desync.specs.Json.{flagText, digestText, seatDigest, tickText, comma, seatList, peerText, peerList}
+use Rattle.desync.specs.Json.{headText, verdictText, ownText, listsText, agreedText, statsText, reportText}
 use Rattle.desync.specs.Asked.{writeAnswer, writeInto}
 
 -- seats 1 to 3 reported; 1 and 3 have another state than seat 0, whose report it is, and 3 another input
@@ -47,7 +48,9 @@ four = record {
 }
 
 whole : reportText four ≡ ascii "{\"schema_version\":1,\"tick\":30,\"local\":0,\"peer_count\":4,\"inputs_agree\":false,\"witnessed\":true,\"local_state_digest\":\"0x0000000000000007\",\"local_input_digest\":\"0x0000000000000003\",\"last_agreed_tick\":20,\"dissenters\":[1,3],\"peers\":[{\"seat\":0,\"state_digest\":null,\"input_digest\":null},{\"seat\":1,\"state_digest\":\"0x0000000000000009\",\"input_digest\":\"0x0000000000000003\"},{\"seat\":2,\"state_digest\":\"0x0000000000000007\",\"input_digest\":\"0x0000000000000003\"},{\"seat\":3,\"state_digest\":\"0x000000000000beef\",\"input_digest\":\"0x0000000000000004\"}],\"agreement_digest\":\"0x00000000000000ff\",\"content\":\"0x0000000000000010\",\"rules\":\"0x0000000000000000\",\"seed\":18446744073709551615,\"stats\":{\"datagrams_refused\":1,\"frames_repeated\":2,\"frames_contradicted\":0,\"frames_out_of_window\":0,\"digests_contradicted\":0,\"stall_pumps\":10}}"
-unfolding four reportText headText verdictText ownText listsText agreedText statsText flagText digestText seatDigest tickText comma seatList peerText peerList othersOf differs dissentersOf inputsAgree isWitnessed has setOf every tally firstSeats removing isEmpty seatCount digits decimal hexDigit hexDigits join if_then_else_
+unfolding four reportText headText verdictText ownText listsText agreedText statsText flagText digestText seatDigest
+    tickText comma seatList peerText peerList othersOf differs dissentersOf inputsAgree isWitnessed has setOf every
+    tally firstSeats removing isEmpty seatCount digits decimal hexDigit hexDigits join if_then_else_
 whole = refl
 
 -- a text of four bytes in buffers of three, four and five

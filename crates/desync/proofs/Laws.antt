@@ -1,5 +1,5 @@
--- Document 01: a report's text is "at most 2,048 bytes". Its numbers are u64 and bytes; then no text is longer than 1,331, so none is cut.
--- Assumes nothing.
+-- Document 01: a report's text is "at most 2,048 bytes". Its numbers are u64 and bytes; then no text is longer than
+-- 1,331, so none is cut. Assumes nothing.
 use Prim.Native.Nat.{ℕ, zero, suc, _*_, _^_, _≤_, _<_, min}
 use mathlib.Core.Path.{_≡_, sym, _∙_}
 use mathlib.Core.Bool.{Bool, true, false}
@@ -21,7 +21,8 @@ use Rattle.desync.specs.declared.Reported.{Reported}
 use Rattle.desync.specs.declared.WriteReport.{WriteReport}
 use Rattle.desync.specs.Asked.{WritesAs}
 use Rattle.desync.specs.Report.{dissentersOf, inputsAgree, isWitnessed}
-use Rattle.desync.specs.Json.{flagText, digestText, seatDigest, tickText, comma, seatList, peerText, peerList, headText, verdictText, ownText, listsText, agreedText, statsText, reportText}
+use Rattle.desync.specs.Json.{flagText, digestText, seatDigest, tickText, comma, seatList, peerText, peerList}
+use Rattle.desync.specs.Json.{headText, verdictText, ownText, listsText, agreedText, statsText, reportText}
 
 -- ---- what a record's types say of its numbers
 
@@ -71,7 +72,8 @@ digest-length n = rw join-length (omega (arith, hex-length 16 n))
 
 seat-digest-length : (there : ℕ) (numbers : List ℕ) (k : ℕ) → length (seatDigest there numbers k) ≤ 20
 unfolding seatDigest
-seat-digest-length there numbers k = byTest (λ (text : List ℕ). length text ≤ 20) (λ _. rw digest-length (omega arith)) (λ _. omega arith)
+seat-digest-length there numbers k =
+    byTest (λ (text : List ℕ). length text ≤ 20) (λ _. rw digest-length (omega arith)) (λ _. omega arith)
 
 -- ---- lists
 
@@ -113,7 +115,12 @@ module _ (r : DesyncReport) (h : Sized r) where
   unfolding headText
   head-length =
       rw join-length
-      (omega (arith, u64-length (r .tick) (h .tick), byte-length (r .local) (h .local), byte-length (r .«peer_count») (h .count)))
+      (omega (
+        arith,
+        u64-length (r .tick) (h .tick),
+        byte-length (r .local) (h .local),
+        byte-length (r .«peer_count») (h .count),
+      ))
 
   verdict-length : length (verdictText r) ≤ 39
   unfolding verdictText
@@ -137,7 +144,13 @@ module _ (r : DesyncReport) (h : Sized r) where
   unfolding agreedText
   agreed-length =
       rw join-length
-      (omega (arith, digest-length (r .agreement), digest-length (r .content), digest-length (r .rules), u64-length (r .seed) (h .seed)))
+      (omega (
+        arith,
+        digest-length (r .agreement),
+        digest-length (r .content),
+        digest-length (r .rules),
+        u64-length (r .seed) (h .seed),
+      ))
 
   stats-length : length (statsText (r .stats)) ≤ 257
   unfolding statsText
@@ -165,6 +178,6 @@ module _ (r : DesyncReport) (h : Sized r) where
   report-whole = fresh-text (reportText r) (omega (arith, report-length))
 
 -- the promise fixes the answer and every lent byte: two that meet it are equal
-pub writes-one : {found : Reported} {out : List ℕ} {a b : WriteReport} {after other : List ℕ} → WritesAs found out a after → WritesAs found out b other
-    → (a ≡ b) × (after ≡ other)
+pub writes-one : {found : Reported} {out : List ℕ} {a b : WriteReport} {after other : List ℕ}
+    → WritesAs found out a after → WritesAs found out b other → (a ≡ b) × (after ≡ other)
 writes-one x y = (x .answered ∙ sym (y .answered), x .lent ∙ sym (y .lent))

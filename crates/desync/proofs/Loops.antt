@@ -54,7 +54,11 @@ module _ {t₀ t : Text} {set k position : ℕ} (i : Listed t₀ set k t positio
 
   pub listed-out : has set k ≡ false → Listed t₀ set (k + 1) t position
   unfolding seatList
-  listed-out h = record { few = omega arith; counted = rw (count-more, h) (omega arith); written = rw (add-one, if-false _ _ h) (i .written) }
+  listed-out h = record {
+    few = omega arith;
+    counted = rw (count-more, h) (omega arith);
+    written = rw (add-one, if-false _ _ h) (i .written);
+  }
 
 -- ---- a comma
 

@@ -1,6 +1,5 @@
--- Document 01, numbers 20, 61 and 62: 20 before anything else; 61 no desync; "62 exactly when the lent buffer is shorter than the text. Bytes past the
--- text keep their values." Refusals change nothing.
--- Assumes nothing.
+-- Document 01, numbers 20, 61 and 62: 20 before anything else; 61 no desync; "62 exactly when the lent buffer is
+-- shorter than the text. Bytes past the text keep their values." Refusals change nothing. Assumes nothing.
 use Prim.Native.Nat.{ℕ}
 use mathlib.Core.Path.{_≡_}
 use mathlib.Core.List.{List}

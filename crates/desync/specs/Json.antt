@@ -44,7 +44,8 @@ comma (suc position) = ascii ","
 -- the seats below k of a set: a seat's position is how many of the set are below it
 unfoldable pub seatList : (set k : ℕ) → List ℕ
 seatList set zero = []
-seatList set (suc k) = if has set k then join (seatList set k ∷ comma (seatCount k set) ∷ decimal k ∷ []) else seatList set k
+seatList set (suc k) =
+    if has set k then join (seatList set k ∷ comma (seatCount k set) ∷ decimal k ∷ []) else seatList set k
 
 -- one seat of the circle, whose position is its number
 unfoldable pub peerText : DesyncReport → ℕ → List ℕ

@@ -1,7 +1,6 @@
--- Document 01, "Pump and report": "The report takes local values from the cell as it stands (0 when empty), remote ones only for the tick, and as
--- last agreed the highest own tick below it that no held remote digest denies". And what desync.rs reads off a report: dissenters, inputs_agree,
--- witnessed.
--- Assumes nothing.
+-- Document 01, "Pump and report": "The report takes local values from the cell as it stands (0 when empty), remote ones
+-- only for the tick, and as last agreed the highest own tick below it that no held remote digest denies". And what
+-- desync.rs reads off a report: dissenters, inputs_agree, witnessed. Assumes nothing.
 use Prim.Native.Nat.{ℕ}
 use mathlib.Core.Bool.{Bool, true, false, not, _&&_}
 use mathlib.Core.List.{List}

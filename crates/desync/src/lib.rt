@@ -1,13 +1,18 @@
-// What is written down of two players that parted: the report, and its text, which a support desk reads and tools parse.
+// What is written down of two players that parted: the report, and its text, which a support desk reads and tools
+// parse.
 ghost use mathlib.Core.Path.{_≡_};
 ghost use Prim.Native.Nat.{_≤_, _<_, min};
 ghost use lib.ListN.{length};
 ghost use Rattle.peer.specs.Seats.{seats, setOf};
 ghost use Rattle.text.specs.Text.{freshText, put};
 ghost use Rattle.text.specs.Decimal.{decimal};
-ghost use Rattle.desync.specs.Report.{othersOf, differs, dissentersOf, inputsAgree, isWitnessed, printIn, isHeld, heardFrom, heardAll, reportAt};
-ghost use Rattle.desync.specs.Json.{flagText, digestText, seatDigest, tickText, comma, seatList, peerText, peerList, headText, verdictText, ownText, listsText, agreedText, statsText, reportText};
-ghost use Rattle.desync.specs.Asked.{blankReport, partedAt, sought, reportFor, desyncReport, writtenOf, WritesAs, Writes};
+ghost use Rattle.desync.specs.Report.{othersOf, differs, dissentersOf, inputsAgree, isWitnessed};
+ghost use Rattle.desync.specs.Report.{printIn, isHeld, heardFrom, heardAll, reportAt};
+ghost use Rattle.desync.specs.Json.{flagText, digestText, seatDigest, tickText, comma};
+ghost use Rattle.desync.specs.Json.{seatList, peerText, peerList, headText, verdictText};
+ghost use Rattle.desync.specs.Json.{ownText, listsText, agreedText, statsText, reportText};
+ghost use Rattle.desync.specs.Asked.{blankReport, partedAt, sought, reportFor};
+ghost use Rattle.desync.specs.Asked.{desyncReport, writtenOf, WritesAs, Writes};
 ghost use Rattle.desync.specs.Numbers.{soughtNo, writeNo};
 use fingerprint::Cell;
 use fingerprint::Fingerprint;
@@ -24,7 +29,8 @@ use text::Text;
 
 const SEATS: usize = peer::SEATS as usize;
 
-// Everything known of a divergence at the tick where it was caught. A seat's state and input are there where the set beside them has the seat.
+// Everything known of a divergence at the tick where it was caught. A seat's state and input are there where the set
+// beside them has the seat.
 pub struct DesyncReport {
     pub tick: u64,
     pub local: u8,
@@ -146,8 +152,8 @@ impl DesyncReport {
         )
     }
 
-    // Whose fault it is, in one bit: the players that reported ran the same inputs, so it is the world's; or they did not, and it is the
-    // session's, the host's or the radio's.
+    // Whose fault it is, in one bit: the players that reported ran the same inputs, so it is the world's; or they did
+    // not, and it is the session's, the host's or the radio's.
     pub fn inputs_agree(self) -> bool
         ensures { λ r. ⌜ r ≡ inputsAgree self ⌝ }
     {

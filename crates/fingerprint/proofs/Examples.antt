@@ -11,7 +11,8 @@ use Rattle.fingerprint.specs.declared.Fingerprints.{Fingerprints}
 use Rattle.fingerprint.specs.declared.Cell.the-variants.{Empty, Holds}
 use Rattle.fingerprint.specs.declared.Arrival.the-variants.{New, Repeated, Contradicted}
 use Rattle.fingerprint.specs.declared.LastAgreed.the-variants.{Never, At}
-use Rattle.fingerprint.specs.Cells.{ownCell, remoteCell, noPrints, cellAt, storedAt, own, remote, withOwn, withRemote, ofTick, ownFor, remoteFor}
+use Rattle.fingerprint.specs.Cells.{ownCell, remoteCell, noPrints, cellAt, storedAt, own}
+use Rattle.fingerprint.specs.Cells.{remote, withOwn, withRemote, ofTick, ownFor, remoteFor}
 use Rattle.fingerprint.specs.Judging.{agrees, allAgree, partedBy, parted, arrivalBy, arrival}
 use Rattle.fingerprint.specs.LastAgreed.{offer, higher, agreedIn, lastAgreed}
 
@@ -25,14 +26,17 @@ ours p tick state input = withOwn p (print tick state input)
 theirs : Fingerprints → (seat tick state input : ℕ) → Fingerprints
 theirs p seat tick state input = withRemote p seat (print tick state input)
 
--- a cell as it stands, and for a tick: another tick of the same cell, another cell, another seat, the last seat and one above it; the newer tick first
+-- a cell as it stands, and for a tick: another tick of the same cell, another cell, another seat, the last seat and one
+-- above it; the newer tick first
 found :
     own noPrints 5 ∷ own (ours noPrints 5 1 2) 5 ∷ own (ours noPrints 5 1 2) 21 ∷ own (ours noPrints 5 1 2) 6
     ∷ ownFor (ours noPrints 5 1 2) 5 ∷ ownFor (ours noPrints 5 1 2) 21 ∷ remote (ours noPrints 5 1 2) 0 5
-    ∷ remote (theirs noPrints 1 5 1 2) 1 5 ∷ remote (theirs noPrints 1 5 1 2) 1 21 ∷ remote (theirs noPrints 1 5 1 2) 2 5 ∷ own (theirs noPrints 1 5 1 2) 5
+    ∷ remote (theirs noPrints 1 5 1 2) 1 5 ∷ remote (theirs noPrints 1 5 1 2) 1 21
+    ∷ remote (theirs noPrints 1 5 1 2) 2 5 ∷ own (theirs noPrints 1 5 1 2) 5
     ∷ remoteFor (theirs noPrints 1 5 1 2) 1 5 ∷ remoteFor (theirs noPrints 1 5 1 2) 1 21
     ∷ remote (theirs noPrints 7 15 1 2) 7 15 ∷ remote (theirs noPrints 8 5 1 2) 8 5
-    ∷ remote (theirs (theirs noPrints 1 21 3 4) 1 5 1 2) 1 21 ∷ remoteFor (theirs (theirs noPrints 1 21 3 4) 1 5 1 2) 1 21
+    ∷ remote (theirs (theirs noPrints 1 21 3 4) 1 5 1 2) 1 21
+    ∷ remoteFor (theirs (theirs noPrints 1 21 3 4) 1 5 1 2) 1 21
     ∷ []
     ≡ Empty ∷ Holds (print 5 1 2) ∷ Holds (print 5 1 2) ∷ Empty
     ∷ Holds (print 5 1 2) ∷ Empty ∷ Empty
@@ -41,7 +45,8 @@ found :
     ∷ Holds (print 15 1 2) ∷ Empty
     ∷ Holds (print 5 1 2) ∷ Empty
     ∷ []
-unfolding print ours theirs noPrints own remote ownFor remoteFor ofTick withOwn withRemote ownCell remoteCell cellAt storedAt if_then_else_
+unfolding print ours theirs noPrints own remote ownFor remoteFor ofTick withOwn withRemote ownCell remoteCell cellAt
+    storedAt if_then_else_
 found = refl
 
 -- a seat above the last changes nothing
@@ -49,11 +54,12 @@ no-seat : theirs noPrints 8 5 1 2 ≡ noPrints
 unfolding print theirs noPrints withRemote ownCell remoteCell storedAt
 no-seat = refl
 
--- silence on either side; the same and another state; another input alone; another tick in the remote's cell, and in one's own; a seat that is no
--- remote; the second remote; the last seat
+-- silence on either side; the same and another state; another input alone; another tick in the remote's cell, and in
+-- one's own; a seat that is no remote; the second remote; the last seat
 judged :
     parted noPrints 2 5 ∷ parted (ours noPrints 5 1 2) 2 5 ∷ parted (theirs noPrints 1 5 1 2) 2 5
-    ∷ parted (theirs (ours noPrints 5 1 2) 1 5 1 2) 2 5 ∷ parted (theirs (ours noPrints 5 1 2) 1 5 9 2) 2 5 ∷ parted (theirs (ours noPrints 5 1 2) 1 5 1 9) 2 5
+    ∷ parted (theirs (ours noPrints 5 1 2) 1 5 1 2) 2 5 ∷ parted (theirs (ours noPrints 5 1 2) 1 5 9 2) 2 5
+    ∷ parted (theirs (ours noPrints 5 1 2) 1 5 1 9) 2 5
     ∷ parted (theirs (ours noPrints 5 1 2) 1 21 9 2) 2 5 ∷ parted (theirs (ours noPrints 21 1 2) 1 5 9 2) 2 5
     ∷ parted (theirs (ours noPrints 5 1 2) 1 5 9 2) 4 5
     ∷ parted (theirs (theirs (ours noPrints 5 1 2) 1 5 1 2) 2 5 9 2) 6 5
@@ -66,14 +72,17 @@ judged :
     ∷ true
     ∷ true
     ∷ []
-unfolding print ours theirs noPrints own remote ownFor remoteFor ofTick withOwn withRemote ownCell remoteCell cellAt storedAt agrees allAgree partedBy parted has every if_then_else_
+unfolding print ours theirs noPrints own remote ownFor remoteFor ofTick withOwn withRemote ownCell remoteCell cellAt
+    storedAt agrees allAgree partedBy parted has every if_then_else_
 judged = refl
 
--- an empty cell; an older and a newer tick in it; this tick with the same values, another state, another input; another seat's cell; no seat
+-- an empty cell; an older and a newer tick in it; this tick with the same values, another state, another input; another
+-- seat's cell; no seat
 arrivals :
     arrival noPrints 1 (print 21 1 2)
     ∷ arrival (theirs noPrints 1 5 1 2) 1 (print 21 1 2) ∷ arrival (theirs noPrints 1 37 1 2) 1 (print 21 1 2)
-    ∷ arrival (theirs noPrints 1 21 1 2) 1 (print 21 1 2) ∷ arrival (theirs noPrints 1 21 1 2) 1 (print 21 9 2) ∷ arrival (theirs noPrints 1 21 1 2) 1 (print 21 1 9)
+    ∷ arrival (theirs noPrints 1 21 1 2) 1 (print 21 1 2) ∷ arrival (theirs noPrints 1 21 1 2) 1 (print 21 9 2)
+    ∷ arrival (theirs noPrints 1 21 1 2) 1 (print 21 1 9)
     ∷ arrival (theirs noPrints 1 21 1 2) 2 (print 21 9 2) ∷ arrival (theirs noPrints 8 21 1 2) 8 (print 21 1 2)
     ∷ []
     ≡ New
@@ -88,14 +97,17 @@ arrivals = refl
 two : Fingerprints
 two = ours (ours noPrints 0 1 2) 3 4 5
 
--- no print; silence, at the tick itself and above it; the higher of two; the higher denied, and both; by its input alone; by another tick of the cell;
--- a tick that stands in a cell of another, with the remote asked where that tick belongs
+-- no print; silence, at the tick itself and above it; the higher of two; the higher denied, and both; by its input
+-- alone; by another tick of the cell; a tick that stands in a cell of another, with the remote asked where that tick
+-- belongs
 last :
     lastAgreed noPrints 2 5
     ∷ lastAgreed two 2 0 ∷ lastAgreed two 2 1 ∷ lastAgreed two 2 3 ∷ lastAgreed two 2 4
-    ∷ lastAgreed (theirs two 1 3 4 5) 2 9 ∷ lastAgreed (theirs two 1 3 9 5) 2 9 ∷ lastAgreed (theirs (theirs two 1 3 9 5) 1 0 9 2) 2 9
+    ∷ lastAgreed (theirs two 1 3 4 5) 2 9 ∷ lastAgreed (theirs two 1 3 9 5) 2 9
+    ∷ lastAgreed (theirs (theirs two 1 3 9 5) 1 0 9 2) 2 9
     ∷ lastAgreed (theirs two 1 3 4 9) 2 9 ∷ lastAgreed (theirs two 1 19 9 5) 2 9 ∷ lastAgreed (theirs two 1 3 9 5) 4 9
-    ∷ lastAgreed (storedAt two 2 (print 35 1 2)) 2 99 ∷ lastAgreed (theirs (storedAt two 2 (print 35 1 2)) 1 35 9 2) 2 99
+    ∷ lastAgreed (storedAt two 2 (print 35 1 2)) 2 99
+    ∷ lastAgreed (theirs (storedAt two 2 (print 35 1 2)) 1 35 9 2) 2 99
     ∷ []
     ≡ Never
     ∷ Never ∷ At 0 ∷ At 0 ∷ At 3
@@ -103,5 +115,6 @@ last :
     ∷ At 3 ∷ At 3 ∷ At 3
     ∷ At 35 ∷ At 3
     ∷ []
-unfolding print ours theirs two noPrints remote remoteFor ofTick withOwn withRemote ownCell remoteCell cellAt storedAt agrees allAgree has every offer higher agreedIn lastAgreed if_then_else_
+unfolding print ours theirs two noPrints remote remoteFor ofTick withOwn withRemote ownCell remoteCell cellAt storedAt
+    agrees allAgree has every offer higher agreedIn lastAgreed if_then_else_
 last = refl

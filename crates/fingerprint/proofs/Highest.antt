@@ -31,7 +31,8 @@ either : (a b : LastAgreed) (t : ℕ) → higher a b ≡ At t → (a ≡ At t) �
 unfolding higher
 either Never b t e = inr e
 either (At a) Never t e = inl e
-either (At a) (At b) t e = byTest (λ (r : LastAgreed). r ≡ At t → (At a ≡ At t) ⊎ (At b ≡ At t)) (λ _ e. inr e) (λ _ e. inl e) e
+either (At a) (At b) t e =
+    byTest (λ (r : LastAgreed). r ≡ At t → (At a ≡ At t) ⊎ (At b ≡ At t)) (λ _ e. inr e) (λ _ e. inl e) e
 
 reaches-left : (u : ℕ) (a b : LastAgreed) → Reaches u a → Reaches u (higher a b)
 unfolding higher
@@ -97,7 +98,8 @@ module _ (p : Fingerprints) (remotes tick : ℕ) where
       (λ r. record { cell = n; low = omega arith; offered = offered (cellAt p n) t r })
       (either (agreedIn p remotes tick n) (offer p remotes tick (cellAt p n)) t e)
 
-  reaches : (n i : ℕ) (f : Fingerprint) → i < n → cellAt p i ≡ Holds f → Agreed f → Reaches (f .tick) (agreedIn p remotes tick n)
+  reaches : (n i : ℕ) (f : Fingerprint) → i < n → cellAt p i ≡ Holds f → Agreed f
+      → Reaches (f .tick) (agreedIn p remotes tick n)
   unfolding agreedIn
   reaches zero i f l e a = absurd (omega arith)
   reaches (suc n) i f l e a =
@@ -105,12 +107,14 @@ module _ (p : Fingerprints) (remotes tick : ℕ) where
       (λ s.
       reaches-right (f .tick) (agreedIn p remotes tick n) (offer p remotes tick (cellAt p n))
       (record { tick = f .tick; is = rw (← s, e) (offers f a); least = omega arith }))
-      (λ s. reaches-left (f .tick) (agreedIn p remotes tick n) (offer p remotes tick (cellAt p n)) (reaches n i f (omega arith) e a))
+      (λ s. reaches-left (f .tick) (agreedIn p remotes tick n) (offer p remotes tick (cellAt p n))
+      (reaches n i f (omega arith) e a))
 
   pub last-agreed-is : (t : ℕ) → lastAgreed p remotes tick ≡ At t → Among history t
   unfolding lastAgreed
   last-agreed-is t e = among history t e
 
-  pub last-agreed-highest : (i : ℕ) (f : Fingerprint) → i < history → cellAt p i ≡ Holds f → Agreed f → Reaches (f .tick) (lastAgreed p remotes tick)
+  pub last-agreed-highest : (i : ℕ) (f : Fingerprint) → i < history → cellAt p i ≡ Holds f → Agreed f
+      → Reaches (f .tick) (lastAgreed p remotes tick)
   unfolding lastAgreed
   last-agreed-highest i f l e a = reaches history i f l e a

@@ -1,5 +1,5 @@
--- The cells of fingerprints: where each print is kept, what is found after one is stored, and what judging says of what is found.
--- Assumes nothing.
+-- The cells of fingerprints: where each print is kept, what is found after one is stored, and what judging says of what
+-- is found. Assumes nothing.
 use Prim.Native.Nat.{ℕ, _<_, _≤_}
 use mathlib.Core.Path.{_≡_, refl, sym}
 use mathlib.Core.Logic.{_≢_}
@@ -16,7 +16,8 @@ use Rattle.fingerprint.specs.declared.Fingerprint.{Fingerprint}
 use Rattle.fingerprint.specs.declared.Fingerprints.{Fingerprints}
 use Rattle.fingerprint.specs.declared.Cell.{Cell}
 use Rattle.fingerprint.specs.declared.Cell.the-variants.{Empty, Holds}
-use Rattle.fingerprint.specs.Cells.{cells, ownCell, remoteCell, noPrints, cellAt, storedAt, own, remote, withOwn, withRemote, ofTick, ownFor, remoteFor}
+use Rattle.fingerprint.specs.Cells.{cells, ownCell, remoteCell, noPrints, cellAt, storedAt, own}
+use Rattle.fingerprint.specs.Cells.{remote, withOwn, withRemote, ofTick, ownFor, remoteFor}
 use Rattle.fingerprint.specs.Judging.{agrees, allAgree, partedBy, parted}
 
 -- ---- which cell
@@ -83,9 +84,15 @@ cellAt-beyond p c h l = if-false _ _ (List·getD-eq-default (p .held) false (ome
 pub stored-beyond : (p : Fingerprints) (c : ℕ) (f : Fingerprint) → Sized p → cells ≤ c → storedAt p c f ≡ p
 unfolding storedAt
 stored-beyond p c f h l =
-    rw (set-out (p .held) c true (omega arith), set-out (p .ticks) c (f .tick) (omega arith), set-out (p .states) c (f .state) (omega arith), set-out (p .inputs) c (f .input) (omega arith))
+    rw (
+      set-out (p .held) c true (omega arith),
+      set-out (p .ticks) c (f .tick) (omega arith),
+      set-out (p .states) c (f .state) (omega arith),
+      set-out (p .inputs) c (f .input) (omega arith),
+    )
 
-pub cellAt-stored-same : (p : Fingerprints) (c : ℕ) (f : Fingerprint) → Sized p → c < cells → cellAt (storedAt p c f) c ≡ Holds f
+pub cellAt-stored-same : (p : Fingerprints) (c : ℕ) (f : Fingerprint) → Sized p → c < cells
+    → cellAt (storedAt p c f) c ≡ Holds f
 unfolding cellAt storedAt
 cellAt-stored-same p c f h l =
     rw (
@@ -96,7 +103,8 @@ cellAt-stored-same p c f h l =
     )
     (if-true _ _ refl)
 
-pub cellAt-stored-other : (p : Fingerprints) (c : ℕ) (f : Fingerprint) (i : ℕ) → i ≢ c → cellAt (storedAt p c f) i ≡ cellAt p i
+pub cellAt-stored-other : (p : Fingerprints) (c : ℕ) (f : Fingerprint) (i : ℕ) → i ≢ c
+    → cellAt (storedAt p c f) i ≡ cellAt p i
 unfolding cellAt storedAt
 cellAt-stored-other p c f i n = simp (getD-set-other, n)
 
@@ -113,7 +121,8 @@ withRemote-beyond p k f h l = stored-beyond p (remoteCell k (f .tick)) f h (omeg
 pub cellAt-new : (c : ℕ) → cellAt noPrints c ≡ Empty
 unfolding cellAt noPrints
 cellAt-new c =
-    caseLt c cells (λ low. if-false _ _ (getD-replicate cells c false false low)) (λ past. cellAt-beyond noPrints c new-sized past)
+    caseLt c cells (λ low. if-false _ _ (getD-replicate cells c false false low))
+    (λ past. cellAt-beyond noPrints c new-sized past)
 
 -- ---- the print for a tick after a store
 
@@ -124,7 +133,9 @@ ofTick-holds t Empty q e = absurd (true≢false (cc))
 ofTick-holds t (Holds f) q e = go e
   where
     go : ofTick t (Holds f) ≡ Holds q → (Holds f ≡ Holds q) × (q .tick ≡ t)
-    go = byTest (λ (o : Cell). o ≡ Holds q → (Holds f ≡ Holds q) × (q .tick ≡ t)) (λ h e. (e, cc (eqb-true (f .tick) t h))) (λ h e. absurd (true≢false (cc)))
+    go =
+        byTest (λ (o : Cell). o ≡ Holds q → (Holds f ≡ Holds q) × (q .tick ≡ t))
+        (λ h e. (e, cc (eqb-true (f .tick) t h))) (λ h e. absurd (true≢false (cc)))
 
 pub ofTick-same : (f : Fingerprint) → ofTick (f .tick) (Holds f) ≡ Holds f
 unfolding ofTick
@@ -133,11 +144,14 @@ ofTick-same f = if-true _ _ (eq-eqb (f .tick) (f .tick) refl)
 -- what was stored last is found
 pub ownFor-fresh : (p : Fingerprints) (f : Fingerprint) → Sized p → ownFor (withOwn p f) (f .tick) ≡ Holds f
 unfolding ownFor own withOwn
-ownFor-fresh p f h = rw (cellAt-stored-same p (ownCell (f .tick)) f h (omega (arith, ownCell-lt (f .tick)))) (ofTick-same f)
+ownFor-fresh p f h =
+    rw (cellAt-stored-same p (ownCell (f .tick)) f h (omega (arith, ownCell-lt (f .tick)))) (ofTick-same f)
 
-pub remoteFor-fresh : (p : Fingerprints) (k : ℕ) (f : Fingerprint) → Sized p → k < seats → remoteFor (withRemote p k f) k (f .tick) ≡ Holds f
+pub remoteFor-fresh : (p : Fingerprints) (k : ℕ) (f : Fingerprint) → Sized p → k < seats
+    → remoteFor (withRemote p k f) k (f .tick) ≡ Holds f
 unfolding remoteFor remote withRemote
-remoteFor-fresh p k f h l = rw (cellAt-stored-same p (remoteCell k (f .tick)) f h (remoteCell-lt k (f .tick) l)) (ofTick-same f)
+remoteFor-fresh p k f h l =
+    rw (cellAt-stored-same p (remoteCell k (f .tick)) f h (remoteCell-lt k (f .tick) l)) (ofTick-same f)
 
 -- in a new session none is
 pub ownFor-new : (t : ℕ) → ownFor noPrints t ≡ Empty
@@ -157,8 +171,8 @@ stored-map : {A B : Type 0} {f q : Fingerprint} {before : Cell} → (A → B) �
 stored-map g (fresh s e) = fresh (g s) e
 stored-map g (older e) = older e
 
-stored-at : (p : Fingerprints) (c : ℕ) (f : Fingerprint) (i t : ℕ) (q : Fingerprint) → Sized p → ofTick t (cellAt (storedAt p c f) i) ≡ Holds q
-    → Stored ((i ≡ c) × (t ≡ f .tick)) f q (ofTick t (cellAt p i))
+stored-at : (p : Fingerprints) (c : ℕ) (f : Fingerprint) (i t : ℕ) (q : Fingerprint) → Sized p
+    → ofTick t (cellAt (storedAt p c f) i) ≡ Holds q → Stored ((i ≡ c) × (t ≡ f .tick)) f q (ofTick t (cellAt p i))
 stored-at p c f i t q h e =
     caseLt c cells
     (λ low.
@@ -170,36 +184,41 @@ stored-at p c f i t q h e =
     (λ s. older (rw (cellAt-stored-other p c f i s) at e)))
     (λ past. older (rw (stored-beyond p c f h past) at e))
 
-pub ownFor-stored : (p : Fingerprints) (f : Fingerprint) (t : ℕ) (q : Fingerprint) → Sized p → ownFor (withOwn p f) t ≡ Holds q
-    → Stored (t ≡ f .tick) f q (ownFor p t)
+pub ownFor-stored : (p : Fingerprints) (f : Fingerprint) (t : ℕ) (q : Fingerprint) → Sized p
+    → ownFor (withOwn p f) t ≡ Holds q → Stored (t ≡ f .tick) f q (ownFor p t)
 unfolding ownFor own withOwn
 ownFor-stored p f t q h e = stored-map (λ s. s .1) (stored-at p (ownCell (f .tick)) f (ownCell t) t q h e)
 
-pub remoteFor-stored : (p : Fingerprints) (k : ℕ) (f : Fingerprint) (j t : ℕ) (q : Fingerprint) → Sized p → remoteFor (withRemote p k f) j t ≡ Holds q
-    → Stored ((j ≡ k) × (t ≡ f .tick)) f q (remoteFor p j t)
+pub remoteFor-stored : (p : Fingerprints) (k : ℕ) (f : Fingerprint) (j t : ℕ) (q : Fingerprint) → Sized p
+    → remoteFor (withRemote p k f) j t ≡ Holds q → Stored ((j ≡ k) × (t ≡ f .tick)) f q (remoteFor p j t)
 unfolding remoteFor remote withRemote
 remoteFor-stored p k f j t q h e =
-    stored-map (λ s. (remote-cells-meet j t k (f .tick) (s .0) .0, s .1)) (stored-at p (remoteCell k (f .tick)) f (remoteCell j t) t q h e)
+    stored-map (λ s. (remote-cells-meet j t k (f .tick) (s .0) .0, s .1))
+    (stored-at p (remoteCell k (f .tick)) f (remoteCell j t) t q h e)
 
 -- a store of one's own leaves the remotes' prints, and a store of a remote's one's own
 pub remoteFor-own : (p : Fingerprints) (f : Fingerprint) (k t : ℕ) → remoteFor (withOwn p f) k t ≡ remoteFor p k t
 unfolding remoteFor remote withOwn
-remoteFor-own p f k t = rw (cellAt-stored-other p (ownCell (f .tick)) f (remoteCell k t) (λ e. own-remote-apart (f .tick) k t (sym e)))
+remoteFor-own p f k t =
+    rw (cellAt-stored-other p (ownCell (f .tick)) f (remoteCell k t) (λ e. own-remote-apart (f .tick) k t (sym e)))
 
 pub ownFor-remote : (p : Fingerprints) (k : ℕ) (f : Fingerprint) (t : ℕ) → ownFor (withRemote p k f) t ≡ ownFor p t
 unfolding ownFor own withRemote
-ownFor-remote p k f t = rw (cellAt-stored-other p (remoteCell k (f .tick)) f (ownCell t) (own-remote-apart t k (f .tick)))
+ownFor-remote p k f t =
+    rw (cellAt-stored-other p (remoteCell k (f .tick)) f (ownCell t) (own-remote-apart t k (f .tick)))
 
 -- ---- judging
 
-denied : (state : ℕ) (c : Cell) → agrees state c ≡ false → record { print : Fingerprint; is : c ≡ Holds print; apart : print .state ≢ state }
+denied : (state : ℕ) (c : Cell) → agrees state c ≡ false
+    → record { print : Fingerprint; is : c ≡ Holds print; apart : print .state ≢ state }
 unfolding agrees
 denied state Empty e = absurd (true≢false e)
 denied state (Holds f) e = record { print = f; is = refl; apart = eqb-false (f .state) state e }
 
 module _ (p : Fingerprints) (remotes tick : ℕ) where
   -- where no state parts, each remote's print for the tick has one's own state
-  pub parted-false : parted p remotes tick ≡ false → (mine : Fingerprint) → ownFor p tick ≡ Holds mine → (k : ℕ) → k < seats → has remotes k ≡ true
+  pub parted-false : parted p remotes tick ≡ false → (mine : Fingerprint) → ownFor p tick ≡ Holds mine → (k : ℕ)
+      → k < seats → has remotes k ≡ true
       → (theirs : Fingerprint) → remoteFor p k tick ≡ Holds theirs → theirs .state ≡ mine .state
   unfolding parted partedBy allAgree agrees
   parted-false e mine m k l h theirs t =
@@ -223,7 +242,16 @@ module _ (p : Fingerprints) (remotes tick : ℕ) where
       let r = every-fails seats _ (not-true _ e) in
       let b = or-neither (not (has remotes (r .seat))) _ (r .is) in
       let d = denied (f .state) (remoteFor p (r .seat) tick) (b .1) in
-      record { mine = f; own = m; seat = r .seat; low = r .low; remote = not-false (has remotes (r .seat)) (b .0); theirs = d .print; other = d .is; apart = d .apart }
+      record {
+        mine = f;
+        own = m;
+        seat = r .seat;
+        low = r .low;
+        remote = not-false (has remotes (r .seat)) (b .0);
+        theirs = d .print;
+        other = d .is;
+        apart = d .apart;
+      }
 
   pub parted-true : parted p remotes tick ≡ true → Parted
   unfolding parted

@@ -1,7 +1,7 @@
--- Document 01: "a digest goes in cell `tick & 15`", and a remote's "in its sender's cell `tick & 15`, over whatever tick is there, older or newer";
--- "arrays of `Option<Fingerprint>` become flat numbers with a presence mark". One's own sixteen cells are the first, then sixteen for each seat. The
--- lists end there, so a seat above the last has no cell: nothing is found past the end, and nothing is stored there.
--- Assumes nothing.
+-- Document 01: "a digest goes in cell `tick & 15`", and a remote's "in its sender's cell `tick & 15`, over whatever
+-- tick is there, older or newer"; "arrays of `Option<Fingerprint>` become flat numbers with a presence mark". One's own
+-- sixteen cells are the first, then sixteen for each seat. The lists end there, so a seat above the last has no cell:
+-- nothing is found past the end, and nothing is stored there. Assumes nothing.
 use Prim.Native.Nat.{ℕ, _+_, _*_}
 use mathlib.Core.Bool.{true, false}
 use lib.Dec.{eqb}
@@ -31,7 +31,12 @@ remoteCell seat tick = (seat + 1) * history + ownCell tick
 
 -- no print yet
 unfoldable pub noPrints : Fingerprints
-noPrints = record { held = replicate cells false; ticks = replicate cells 0; states = replicate cells 0; inputs = replicate cells 0 }
+noPrints = record {
+  held = replicate cells false;
+  ticks = replicate cells 0;
+  states = replicate cells 0;
+  inputs = replicate cells 0;
+}
 
 unfoldable pub cellAt : Fingerprints → ℕ → Cell
 cellAt p c =

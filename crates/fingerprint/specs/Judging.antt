@@ -1,6 +1,6 @@
--- Document 01: "Judging compares state values only, own against each remote for that very tick". Of a Digest, 30: "the cell holds this tick with
--- other values"; "An equal repeat is accepted unjudged; any other Digest that isn't refused goes in its sender's cell".
--- Assumes nothing.
+-- Document 01: "Judging compares state values only, own against each remote for that very tick". Of a Digest, 30: "the
+-- cell holds this tick with other values"; "An equal repeat is accepted unjudged; any other Digest that isn't refused
+-- goes in its sender's cell". Assumes nothing.
 use Prim.Native.Nat.{ℕ}
 use mathlib.Core.Bool.{Bool, true, false, not, _&&_, _||_}
 use lib.Dec.{eqb}

@@ -1,5 +1,5 @@
--- Document 01, of the report: "as last agreed the highest own tick below it that no held remote digest denies; silence counts as agreement".
--- One's own cells are asked as they stand, and the remotes for the very tick that a cell holds.
+-- Document 01, of the report: "as last agreed the highest own tick below it that no held remote digest denies; silence
+-- counts as agreement". One's own cells are asked as they stand, and the remotes for the very tick that a cell holds.
 -- Assumes nothing.
 use Prim.Native.Nat.{ℕ, zero, suc}
 use mathlib.Core.Bool.{not}

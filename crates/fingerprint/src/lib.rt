@@ -1,7 +1,9 @@
-// What worlds and inputs hashed to after a tick: the fingerprints of this player and of each other one, sixteen of each, and where they part.
+// What worlds and inputs hashed to after a tick: the fingerprints of this player and of each other one, sixteen of
+// each, and where they part.
 ghost use mathlib.Core.Path.{_≡_};
 ghost use lib.Dec.{eqb};
-ghost use Rattle.fingerprint.specs.Cells.{ownCell, remoteCell, noPrints, cellAt, storedAt, own, remote, withOwn, withRemote, ofTick, remoteFor};
+ghost use Rattle.fingerprint.specs.Cells.{ownCell, remoteCell, noPrints, cellAt, storedAt, own};
+ghost use Rattle.fingerprint.specs.Cells.{remote, withOwn, withRemote, ofTick, remoteFor};
 ghost use Rattle.fingerprint.specs.Judging.{agrees, allAgree, parted, arrivalBy, arrival};
 ghost use Rattle.fingerprint.specs.LastAgreed.{offer, higher, lastAgreed};
 use peer::PeerSet;

@@ -1,6 +1,7 @@
-// Sessions that no run of calls can reach, built by hand, and every call on each of them. Standard input holds a script; it is run on each session from its
-// first record on, from its second on, and so on, so that each record meets each session as it was built. The file stdout beside src/ is what
-// tests/handmade.py, over the rules' second writing, says of the same.
+// Sessions that no run of calls can reach, built by hand, and every call on each of them. Standard input holds a
+// script; it is run on each session from its first record on, from its second on, and so on, so that each record meets
+// each session as it was built. The file stdout beside src/ is what tests/handmade.py, over the rules' second writing,
+// says of the same.
 use fingerprint::Cell;
 use fingerprint::Fingerprint;
 use params::SessionParams;

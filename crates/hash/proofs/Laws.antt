@@ -24,7 +24,8 @@ fnv-lt h [] l = l
 fnv-lt h (x ∷ xs) l = fnv-lt (step h x) xs (mod-lt (bitXor h x * prime) (pow-pos 64))
 
 -- the byte at i, then those after it
-pub fnv-byte : (h : ℕ) (s : List ℕ) (i : ℕ) → i < length s → fnv (step h (getD s i 0)) (drop (i + 1) s) ≡ fnv h (drop i s)
+pub fnv-byte : (h : ℕ) (s : List ℕ) (i : ℕ) → i < length s
+    → fnv (step h (getD s i 0)) (drop (i + 1) s) ≡ fnv h (drop i s)
 unfolding fnv
 fnv-byte h s i l = rw (add-one, drop-cons s i 0)
 

@@ -1,6 +1,6 @@
--- Document 01, "State hash (added), FNV-1a 64": start at 14695981039346656037; for each byte the value is combined by exclusive or, then
--- multiplied modulo 2^64 by 1,099,511,628,211. u32 and u64 go in as little-endian bytes. No length is mixed in.
--- Assumes nothing.
+-- Document 01, "State hash (added), FNV-1a 64": start at 14695981039346656037; for each byte the value is combined by
+-- exclusive or, then multiplied modulo 2^64 by 1,099,511,628,211. u32 and u64 go in as little-endian bytes. No length
+-- is mixed in. Assumes nothing.
 use Prim.Native.Nat.{ℕ, zero, suc, _*_, _/_, _%_, _^_}
 use mathlib.Core.List.{List, [], _∷_}
 use lib.Bits.{bitXor}

@@ -30,7 +30,8 @@ fn times_prime(h: u64) -> u64
     wrapping_mul(h, PRIME)
 }
 
-// A fingerprint in progress. Absorbing hands the next one back, so the order of what goes in is written out as an expression.
+// A fingerprint in progress. Absorbing hands the next one back, so the order of what goes in is written out as an
+// expression.
 pub struct StateHash {
     pub value: u64,
 }

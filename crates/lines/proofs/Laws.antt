@@ -22,7 +22,8 @@ fields-nil (suc count) width = refl
 module _ (count width : ℕ) (rows : List (List ℕ)) (k : ℕ) where
   -- row k, then those after it
   pub fields-row : k < count → k < length rows
-      → fieldTexts (count - k) width (drop k rows) ≡ fieldText width (getD rows k []) ++ fieldTexts (count - (k + 1)) width (drop (k + 1) rows)
+      → fieldTexts (count - k) width (drop k rows)
+      ≡ fieldText width (getD rows k []) ++ fieldTexts (count - (k + 1)) width (drop (k + 1) rows)
   unfolding fieldTexts
   fields-row below inside =
       let left : count - k ≡ suc (count - suc k) = omega arith in

@@ -1,6 +1,5 @@
--- Document 01, "The script runner `circle`", "Lines": the line of each answer. 20 is no answer that a script gets, as only a good open makes a
--- session; its lines are the call's name and the number.
--- Assumes nothing.
+-- Document 01, "The script runner `circle`", "Lines": the line of each answer. 20 is no answer that a script gets, as
+-- only a good open makes a session; its lines are the call's name and the number. Assumes nothing.
 use Prim.Native.Nat.{ℕ, zero, suc, _≤_}
 use mathlib.Core.Path.{_≡_}
 use mathlib.Core.Bool.{Bool, true, false}
@@ -102,11 +101,14 @@ fieldTexts (suc count) width (row ∷ rows) = fieldText width row ++ fieldTexts 
 
 -- `step TICK DUE` and the fields
 unfoldable pub stepLine : Step → List (List ℕ) → List ℕ
-stepLine step rows = join (ascii "step " ∷ decimal (step .tick) ∷ ascii " " ∷ flagText (step .due) ∷ fieldTexts (step .count) (step .width) rows ∷ ascii "\n" ∷ [])
+stepLine step rows =
+    join (ascii "step " ∷ decimal (step .tick) ∷ ascii " " ∷ flagText (step .due)
+    ∷ fieldTexts (step .count) (step .width) rows ∷ ascii "\n" ∷ [])
 
 -- `stalled TICK SEATSET COUNT`, the set as its byte in decimal
 unfoldable pub stalledLine : (tick waiting pumps : ℕ) → List ℕ
-stalledLine tick waiting pumps = join (ascii "stalled " ∷ decimal tick ∷ ascii " " ∷ decimal waiting ∷ ascii " " ∷ decimal pumps ∷ ascii "\n" ∷ [])
+stalledLine tick waiting pumps =
+    join (ascii "stalled " ∷ decimal tick ∷ ascii " " ∷ decimal waiting ∷ ascii " " ∷ decimal pumps ∷ ascii "\n" ∷ [])
 
 unfoldable pub advanceLine : Advance → List (List ℕ) → List ℕ
 advanceLine (Advance′.Step step) rows = stepLine step rows
@@ -140,6 +142,7 @@ bodyText (Body′.Other kind) = ascii "7 0 0"
 
 -- or `send 71`
 unfoldable pub sendLine : Outbound → List ℕ
-sendLine (Outbound′.Send peer message) = join (ascii "send " ∷ decimal peer ∷ ascii " " ∷ bodyText (message .body) ∷ ascii "\n" ∷ [])
+sendLine (Outbound′.Send peer message) =
+    join (ascii "send " ∷ decimal peer ∷ ascii " " ∷ bodyText (message .body) ∷ ascii "\n" ∷ [])
 sendLine Outbound′.Nothing = numbered (ascii "send ") 71
 sendLine Outbound′.BadState = numbered (ascii "send ") 20

@@ -1,9 +1,13 @@
-// The lines that the script runner prints: one for each answer, and what the trace form adds. Nothing here reads a session.
+// The lines that the script runner prints: one for each answer, and what the trace form adds. Nothing here reads a
+// session.
 ghost use Prim.Native.Nat.{_≤_};
 ghost use mathlib.Core.Path.{_≡_};
 ghost use lib.ListN.{length};
 ghost use Rattle.text.specs.Text.{put};
-ghost use Rattle.lines.specs.Lines.{Says, numbered, flagText, outcomeText, endedLine, openLine, acceptedText, submitLine, deliverLine, fieldText, fieldTexts, stepLine, stalledLine, advanceLine, commitLine, leaveLine, reportLine, bodyText, sendLine, badLine, noneLine, cutLine};
+ghost use Rattle.lines.specs.Lines.{Says, numbered, flagText, outcomeText, endedLine, openLine};
+ghost use Rattle.lines.specs.Lines.{acceptedText, submitLine, deliverLine, fieldText, fieldTexts};
+ghost use Rattle.lines.specs.Lines.{stepLine, stalledLine, advanceLine, commitLine, leaveLine};
+ghost use Rattle.lines.specs.Lines.{reportLine, bodyText, sendLine, badLine, noneLine, cutLine};
 use deliver::Delivery;
 use desync::DesyncReport;
 use desync::Sought;

@@ -9,7 +9,8 @@ use borrow.Author.Tests.{eqb-true, eqb-false, ltb-true, ltb-false}
 use Rattle.logic.specs.Test.{if_then_else_}
 
 -- the case rule: what holds of both arms holds of the whole
-pub byTest {ℓ κ} : {A : Type ℓ} (P : A → Type κ) {b : Bool} {x y : A} → (b ≡ true → P x) → (b ≡ false → P y) → P (if b then x else y)
+pub byTest {ℓ κ} : {A : Type ℓ} (P : A → Type κ) {b : Bool} {x y : A} → (b ≡ true → P x) → (b ≡ false → P y)
+    → P (if b then x else y)
 unfolding if_then_else_
 byTest P {b = true} f g = f refl
 byTest P {b = false} f g = g refl

@@ -1,6 +1,5 @@
--- A list that is said element by element, and one that a loop fills from the front. At any type of element, so the laws serve
--- bytes and rows of bytes.
--- Assumes nothing.
+-- A list that is said element by element, and one that a loop fills from the front. At any type of element, so the laws
+-- serve bytes and rows of bytes. Assumes nothing.
 use mathlib.Core.Path.{_≡_, refl, sym, ap, _∙_, subst}
 use mathlib.Core.Logic.{inl, inr}
 use mathlib.Core.List.{List}
@@ -32,7 +31,8 @@ module _ {A : Type 0} {d : A} {f : ℕ → A} {m : ℕ} where
   pub filled-none : {xs : List A} → length xs ≡ m → Filled d f m 0 xs
   filled-none h = record { long = h; most = omega arith; at = λ k l. absurd (omega arith) }
 
-  pub filled-more : {n : ℕ} {xs : List A} {x : A} → Filled d f m n xs → n < m → x ≡ f n → Filled d f m (n + 1) (set xs n x)
+  pub filled-more : {n : ℕ} {xs : List A} {x : A} → Filled d f m n xs → n < m → x ≡ f n
+      → Filled d f m (n + 1) (set xs n x)
   filled-more {n} {xs} {x} u h e = record {
     long = length-set xs n x ∙ u .long;
     most = omega arith;

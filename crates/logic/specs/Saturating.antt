@@ -1,5 +1,5 @@
--- Document 01: counters and ticks stop at 2^64-1, sums saturate, and so do differences. A difference of ℕ stops at 0 by itself.
--- Assumes nothing.
+-- Document 01: counters and ticks stop at 2^64-1, sums saturate, and so do differences. A difference of ℕ stops at 0 by
+-- itself. Assumes nothing.
 use Prim.Native.Nat.{ℕ, _+_, min}
 
 -- 2^64-1

@@ -1,5 +1,5 @@
--- `if b then x else y`, shut: a definition that tests stays a tree of calls of it until a proof takes a case (proofs/Cases.antt).
--- Assumes nothing.
+-- `if b then x else y`, shut: a definition that tests stays a tree of calls of it until a proof takes a case
+-- (proofs/Cases.antt). Assumes nothing.
 use mathlib.Core.Bool.{Bool, true, false}
 
 infixr 10 if_then_else_

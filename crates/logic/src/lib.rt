@@ -1,4 +1,5 @@
-// Sums that stop at their ends, a test of a range, the lesser of two, and a byte in a wider type: the small arithmetic that every layer uses.
+// Sums that stop at their ends, a test of a range, the lesser of two, and a byte in a wider type: the small arithmetic
+// that every layer uses.
 ghost use mathlib.Core.Path.{_≡_};
 ghost use Prim.Native.Nat.{_-_, min};
 ghost use Rattle.logic.specs.Saturating.{raised, sum};
@@ -45,7 +46,8 @@ pub fn is_outside(n: u8, low: u8, high: u8) -> bool
     high < n
 }
 
-// A cast asks for the fact that the number fits wherever it stands. Here it asks once, and a caller has an equation to rewrite by.
+// A cast asks for the fact that the number fits wherever it stands. Here it asks once, and a caller has an equation to
+// rewrite by.
 pub fn wide(x: u8) -> usize
     ensures { λ r. ⌜ r ≡ x ⌝ }
 {

@@ -70,6 +70,7 @@ pub has-roster : (p : SessionParams) (k : ℕ) → k < seats → has (rosterOf p
 unfolding rosterOf
 has-roster p k l = has-first seats (p .count) k l
 
-pub has-remotes : (p : SessionParams) (k : ℕ) → k < seats → has (remotesOf p) k ≡ ltb k (p .count) && not (eqb k (p .local))
+pub has-remotes : (p : SessionParams) (k : ℕ) → k < seats
+    → has (remotesOf p) k ≡ ltb k (p .count) && not (eqb k (p .local))
 unfolding remotesOf
 has-remotes p k l = has-removing seats (rosterOf p) (p .local) k l ∙ rw (has-roster p k)

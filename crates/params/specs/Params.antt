@@ -11,7 +11,8 @@ use Rattle.peer.specs.Seats.{seats, firstSeats, removing}
 use Rattle.peer.specs.Cells.{window}
 use Rattle.params.specs.declared.SessionParams.{SessionParams}
 use Rattle.params.specs.declared.Validity.{Validity}
-use Rattle.params.specs.declared.Validity.the-variants.{Valid, PeerCount, LocalNotInRoster, InputBytes, InputDelay, DigestPeriodZero, SessionZero}
+use Rattle.params.specs.declared.Validity.the-variants.{Valid, PeerCount, LocalNotInRoster, InputBytes}
+use Rattle.params.specs.declared.Validity.the-variants.{InputDelay, DigestPeriodZero, SessionZero}
 
 -- the smallest circle
 abbrev pub minPeers : ℕ
@@ -27,8 +28,8 @@ maxDelay = 63
 
 -- ---- 11 to 16
 
--- count not 2..8; local not below count; width not 1..16; delay above 63; period 0; session 0: the first that holds, with the values that the
--- Rust's `ParamsError` carries
+-- count not 2..8; local not below count; width not 1..16; delay above 63; period 0; session 0: the first that holds,
+-- with the values that the Rust's `ParamsError` carries
 unfoldable pub validity : SessionParams → Validity
 validity p =
     if outside minPeers seats (p .count) then PeerCount (p .count) minPeers seats

@@ -108,8 +108,8 @@ impl SessionParams {
         self.validate().number() != 0
     }
 
-    // The number that every player puts in its Hello. The local seat is left out, as it differs from player to player, and the
-    // session number, as another one is refused before the agreement is looked at.
+    // The number that every player puts in its Hello. The local seat is left out, as it differs from player to player,
+    // and the session number, as another one is refused before the agreement is looked at.
     pub fn agreement(self) -> u64
         ensures { λ r. ⌜ r ≡ agreementOf self ⌝ }
     {

@@ -1,5 +1,5 @@
--- Document 01: a tick's cell in the window is `tick & 63`, and among the fingerprints `tick & 15`: the remainder by 64 and by 16.
--- Assumes nothing.
+-- Document 01: a tick's cell in the window is `tick & 63`, and among the fingerprints `tick & 15`: the remainder by 64
+-- and by 16. Assumes nothing.
 use Prim.Native.Nat.{ℕ, _%_}
 
 -- how many ticks the window holds

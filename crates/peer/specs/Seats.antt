@@ -1,6 +1,6 @@
--- Document 01, "peer.rs": a set of seats is one byte, seat k at bit k. `of_count` of 0 is 0, of 3 is 7, of 8 or more is 255. A seat above 7 is in
--- no set; adding or removing it changes nothing. Each definition is over the number w of seats, so it serves a byte and any wider number.
--- Assumes nothing.
+-- Document 01, "peer.rs": a set of seats is one byte, seat k at bit k. `of_count` of 0 is 0, of 3 is 7, of 8 or more is
+-- 255. A seat above 7 is in no set; adding or removing it changes nothing. Each definition is over the number w of
+-- seats, so it serves a byte and any wider number. Assumes nothing.
 use mathlib.Core.Bool.{Bool, true, false, not, _&&_, _||_}
 use Prim.Native.Nat.{ℕ, zero, suc, _+_, _*_, _/_, _%_, _^_}
 use lib.Dec.{eqb, ltb}
@@ -18,7 +18,8 @@ abbrev pub bit : Bool → ℕ
 bit true = 1
 bit false = 0
 
--- the set of those seats j below w for which `p j` holds, as a number: bit 0 is seat 0, and the bits above it are the seats above
+-- the set of those seats j below w for which `p j` holds, as a number: bit 0 is seat 0, and the bits above it are the
+-- seats above
 unfoldable pub setOf : ℕ → (ℕ → Bool) → ℕ
 setOf zero p = 0
 setOf (suc w) p = setOf w (λ j. p (suc j)) * 2 + bit (p zero)

@@ -91,8 +91,8 @@ impl PeerSet {
     }
 }
 
-// How many ticks the window holds, from pending on, and how many fingerprints are kept of each seat. Both are powers of two, so
-// that a mask finds a tick's cell.
+// How many ticks the window holds, from pending on, and how many fingerprints are kept of each seat. Both are powers of
+// two, so that a mask finds a tick's cell.
 pub const WINDOW: u64 = 64;
 
 pub const HISTORY: u64 = 16;

@@ -1,6 +1,5 @@
--- Worked examples, computed from the definitions: the three pumps of document 01's case R, a whole pass of three seats, and what an Inputs carries
--- once a remote's frame 64 ticks ahead has emptied a cell.
--- Assumes nothing.
+-- Worked examples, computed from the definitions: the three pumps of document 01's case R, a whole pass of three seats,
+-- and what an Inputs carries once a remote's frame 64 ticks ahead has emptied a cell. Assumes nothing.
 use Prim.Native.Nat.{ℕ, zero, suc}
 use mathlib.Core.Path.{_≡_, refl}
 use mathlib.Core.Bool.{Bool, true, false}
@@ -29,7 +28,9 @@ use Rattle.session.specs.declared.Emit.the-variants.{Hello}
 use Rattle.session.specs.declared.Session.{Session}
 use Rattle.pump.specs.declared.Outbound.{Outbound}
 use Rattle.pump.specs.declared.Outbound.the-variants.{Send, Nothing, BadState}
-use Rattle.pump.specs.Pump.{nextRemote, targetOf, span, carried, runByte, runFrom, runOf, inputsOf, digestOf, saying, addressed, sayTo, say, firstKind, quiet, passEnds, send, sent, pumpDigest, pumpInputs, pumpHello, pumpBye, pumpFrom, pump}
+use Rattle.pump.specs.Pump.{nextRemote, targetOf, span, carried, runByte, runFrom, runOf, inputsOf}
+use Rattle.pump.specs.Pump.{digestOf, saying, addressed, sayTo, say, firstKind, quiet, passEnds, send}
+use Rattle.pump.specs.Pump.{sent, pumpDigest, pumpInputs, pumpHello, pumpBye, pumpFrom, pump}
 
 -- kind, tick and count, as the script runner prints them
 said : Body → List ℕ
@@ -51,7 +52,17 @@ lines (suc n) s = line (pump s .answer) ∷ lines n (pump s .session)
 
 -- one byte a tick, and a digest for each; `count` seats, of which this is `local`
 seated : (count local : ℕ) → SessionParams
-seated count local = record { count = count; local = local; width = 1; delay = 0; period = 1; seed = 0; content = 0; rules = 0; session = 9 }
+seated count local = record {
+  count = count;
+  local = local;
+  width = 1;
+  delay = 0;
+  period = 1;
+  seed = 0;
+  content = 0;
+  rules = 0;
+  session = 9;
+}
 
 at : SessionParams → Window → (pending next seen : ℕ) → Bool → Standing → Session
 at p w pending next seen playing outcome = record {
@@ -78,7 +89,9 @@ case-r : Session
 case-r = at (seated 2 0) freshWindow 1 1 2 false (Over (PeerLeft 1 0))
 
 pumps-of-r : lines 3 case-r ≡ (1 ∷ 3 ∷ 0 ∷ 0 ∷ []) ∷ (71 ∷ []) ∷ (1 ∷ 6 ∷ 0 ∷ 0 ∷ []) ∷ []
-unfolding said line lines seated at case-r has setOf every firstSeats removing isSubset outside validity badState rosterOf remotesOf isPlaying nextRemote targetOf saying addressed sayTo say firstKind quiet passEnds send sent pumpBye pumpHello pumpFrom pump if_then_else_
+unfolding said line lines seated at case-r has setOf every firstSeats removing isSubset outside validity badState
+    rosterOf remotesOf isPlaying nextRemote targetOf saying addressed sayTo say firstKind quiet passEnds send sent
+    pumpBye pumpHello pumpFrom pump if_then_else_
 pumps-of-r = refl
 
 -- seat 1 of three has pressed for ticks 0, 1 and 2, and seat 2 was not seen playing
@@ -89,21 +102,30 @@ playing-on : Window → Session
 playing-on w = at (seated 3 1) w 1 3 1 true Open
 
 whole-pass : lines 7 (playing-on pressed)
-    ≡ (0 ∷ 3 ∷ 0 ∷ 0 ∷ []) ∷ (2 ∷ 3 ∷ 0 ∷ 0 ∷ []) ∷ (0 ∷ 4 ∷ 0 ∷ 3 ∷ []) ∷ (2 ∷ 4 ∷ 0 ∷ 3 ∷ []) ∷ (0 ∷ 5 ∷ 0 ∷ 0 ∷ []) ∷ (2 ∷ 5 ∷ 0 ∷ 0 ∷ []) ∷ (71 ∷ []) ∷ []
-unfolding said line lines seated at pressed playing-on has setOf every firstSeats adding removing isSubset outside validity badState rosterOf remotesOf freshWindow heldBy isHeld written writeFrame isPlaying nextRemote targetOf span carried inputsOf digestOf saying addressed sayTo say firstKind quiet passEnds send sent pumpDigest pumpInputs pumpHello pumpFrom pump if_then_else_
+    ≡ (0 ∷ 3 ∷ 0 ∷ 0 ∷ []) ∷ (2 ∷ 3 ∷ 0 ∷ 0 ∷ []) ∷ (0 ∷ 4 ∷ 0 ∷ 3 ∷ []) ∷ (2 ∷ 4 ∷ 0 ∷ 3 ∷ []) ∷ (0 ∷ 5 ∷ 0 ∷ 0 ∷ [])
+    ∷ (2 ∷ 5 ∷ 0 ∷ 0 ∷ []) ∷ (71 ∷ []) ∷ []
+unfolding said line lines seated at pressed playing-on has setOf every firstSeats adding removing isSubset outside
+    validity badState rosterOf remotesOf freshWindow heldBy isHeld written writeFrame isPlaying nextRemote targetOf span
+    carried inputsOf digestOf saying addressed sayTo say firstKind quiet passEnds send sent pumpDigest pumpInputs
+    pumpHello pumpFrom pump if_then_else_
 whole-pass = refl
 
 run-of-three : runOf (playing-on pressed) ≡ 0x41 ∷ 0x42 ∷ 0x43 ∷ replicate 125 0
-unfolding tabulate seated at pressed playing-on has setOf adding freshWindow heldBy isHeld frameOf written writeFrame span carried runByte runFrom runOf if_then_else_
+unfolding tabulate seated at pressed playing-on has setOf adding freshWindow heldBy isHeld frameOf written writeFrame
+    span carried runByte runFrom runOf if_then_else_
 run-of-three = refl
 
 -- seat 0's frame for tick 65 empties the cell of tick 1: only the newest goes
 one-frame : carried (playing-on (writeFrame pressed 0 65 (1 ∷ []))) ≡ 1
-unfolding seated at pressed playing-on has setOf adding freshWindow heldBy isHeld written writeFrame span carried if_then_else_
+unfolding seated at pressed playing-on has setOf adding freshWindow heldBy isHeld written writeFrame span carried
+    if_then_else_
 one-frame = refl
 
 -- its frame for tick 66 empties that of the newest: Inputs is skipped
 no-inputs : lines 5 (playing-on (writeFrame pressed 0 66 (1 ∷ [])))
     ≡ (0 ∷ 3 ∷ 0 ∷ 0 ∷ []) ∷ (2 ∷ 3 ∷ 0 ∷ 0 ∷ []) ∷ (0 ∷ 5 ∷ 0 ∷ 0 ∷ []) ∷ (2 ∷ 5 ∷ 0 ∷ 0 ∷ []) ∷ (71 ∷ []) ∷ []
-unfolding said line lines seated at pressed playing-on has setOf every firstSeats adding removing isSubset outside validity badState rosterOf remotesOf freshWindow heldBy isHeld written writeFrame isPlaying nextRemote targetOf span carried inputsOf digestOf saying addressed sayTo say firstKind quiet passEnds send sent pumpDigest pumpInputs pumpHello pumpFrom pump if_then_else_
+unfolding said line lines seated at pressed playing-on has setOf every firstSeats adding removing isSubset outside
+    validity badState rosterOf remotesOf freshWindow heldBy isHeld written writeFrame isPlaying nextRemote targetOf span
+    carried inputsOf digestOf saying addressed sayTo say firstKind quiet passEnds send sent pumpDigest pumpInputs
+    pumpHello pumpFrom pump if_then_else_
 no-inputs = refl

@@ -1,6 +1,6 @@
--- What later layers use of the pump: what it can do, that it moves nothing but its own kind and place, that at most 21 messages precede 71, and
--- from whom and to whom a message goes. What an Inputs carries is in Newest.antt.
--- Assumes nothing.
+-- What later layers use of the pump: what it can do, that it moves nothing but its own kind and place, that at most 21
+-- messages precede 71, and from whom and to whom a message goes. What an Inputs carries is in Newest.antt. Assumes
+-- nothing.
 use Prim.Native.Nat.{ℕ, zero, suc, _+_, _-_, _<_, _≤_, min}
 use mathlib.Core.Path.{_≡_, refl, sym, ap, _∙_}
 use mathlib.Core.Bool.{Bool, true, false, not, and-false, true≢false}
@@ -27,7 +27,8 @@ use Rattle.pump.specs.declared.Say.the-variants.{No, To}
 use Rattle.pump.specs.declared.Outbound.the-variants.{Send, BadState}
 use Rattle.pump.specs.declared.Pumped.{Pumped}
 use Rattle.pump.specs.Numbers.{outboundNo}
-use Rattle.pump.specs.Pump.{nextRemote, targetOf, saying, addressed, sayTo, say, quiet, passEnds, send, sent, pumpDigest, pumpInputs, pumpHello, pumpBye, pumpFrom, pump}
+use Rattle.pump.specs.Pump.{nextRemote, targetOf, saying, addressed, sayTo, say, quiet, passEnds}
+use Rattle.pump.specs.Pump.{send, sent, pumpDigest, pumpInputs, pumpHello, pumpBye, pumpFrom, pump}
 
 -- ---- the seats that are left
 
@@ -46,7 +47,8 @@ remaining-le remotes place zero = omega arith
 remaining-le remotes place (suc n) = omega (arith, remaining-le remotes (place + 1) n, bit-le (has remotes place))
 
 -- one that is not in the set leaves one fewer
-remaining-lt : (remotes place n j : ℕ) → has remotes j ≡ false → place ≤ j → j < place + n → remaining remotes place n < n
+remaining-lt : (remotes place n j : ℕ) → has remotes j ≡ false → place ≤ j → j < place + n
+    → remaining remotes place n < n
 unfolding remaining
 remaining-lt remotes place zero j e l h = absurd (omega arith)
 remaining-lt remotes place (suc n) j e l h =
@@ -105,7 +107,8 @@ ahead-le p ok place =
 
 -- ---- what is left of a pass
 
--- how many messages can go before the pass ends: those of this kind to the seats from `place` on, and of the kinds after it
+-- how many messages can go before the pass ends: those of this kind to the seats from `place` on, and of the kinds
+-- after it
 unfoldable pub leftAt : SessionParams → Emit → ℕ → ℕ
 leftAt p Hello place = 14 + ahead p place
 leftAt p Inputs place = 7 + ahead p place
@@ -136,7 +139,8 @@ unfolding addressed
 addressed-to j k body Silent e = let z : _≡_ {A = ℕ} 0 1 = cc in absurd (omega arith)
 addressed-to j k body (Says b) e = (cc, cc)
 
-pub told : (s : Session) (emit : Emit) (place k : ℕ) (body : Body) → say s emit place ≡ To k body → Told s emit place k body
+pub told : (s : Session) (emit : Emit) (place k : ℕ) (body : Body) → say s emit place ≡ To k body
+    → Told s emit place k body
 unfolding say sayTo
 told s emit place k body e = from (targetOf s place) refl
   where
@@ -152,7 +156,8 @@ pub record Fell (p : SessionParams) (emit : Emit) (place k : ℕ) : Type 0 where
   pub remote : has (remotesOf p) k ≡ true
   pub falls : leftAt p emit (min (k + 1) 255) < leftAt p emit place
 
-fewer : (s : Session) (emit : Emit) (place k : ℕ) (body : Body) → saying s emit ≡ Says body → ahead (s .params) (k + 1) < ahead (s .params) place
+fewer : (s : Session) (emit : Emit) (place k : ℕ) (body : Body) → saying s emit ≡ Says body
+    → ahead (s .params) (k + 1) < ahead (s .params) place
     → leftAt (s .params) emit (k + 1) < leftAt (s .params) emit place
 unfolding leftAt saying
 fewer s Hello place k body q f = omega arith
@@ -161,7 +166,8 @@ fewer s Digest place k body q f = omega arith
 fewer s Bye place k body q f = omega arith
 fewer s Done place k body q f = let z : _≡_ {A = ℕ} 0 1 = cc in absurd (omega arith)
 
-pub fell : (s : Session) (emit : Emit) (place k : ℕ) (body : Body) → say s emit place ≡ To k body → Fell (s .params) emit place k
+pub fell : (s : Session) (emit : Emit) (place k : ℕ) (body : Body) → say s emit place ≡ To k body
+    → Fell (s .params) emit place k
 unfolding targetOf ahead
 fell s emit place k body e =
     let t = told s emit place k body e in
@@ -296,7 +302,8 @@ pass-in : (n : ℕ) (s : Session) → badState (s .params) ≡ false → left s 
 pass-in zero s ok h = answers s ok (λ z. absurd (omega (arith, left-falls s z))) (λ z. no-more s zero z)
 pass-in (suc n) s ok h =
     answers s ok
-    (λ z. one-more s n z (pass-in n (pump s .session) (ap (λ (q : Session). badState (q .params)) (pump-moves s) ∙ ok) (omega (arith, left-falls s z))))
+    (λ z. one-more s n z (pass-in n (pump s .session) (ap (λ (q : Session). badState (q .params)) (pump-moves s) ∙ ok)
+    (omega (arith, left-falls s z))))
     (λ z. no-more s (suc n) z)
 
 -- with no other call between, at most 21 messages precede 71
@@ -305,7 +312,8 @@ pass s ok = pass-in 21 s ok (left-le (s .params) (sound (s .params) ok) (s .emit
 
 refused-first : (s : Session) → badState (s .params) ≡ true → outboundNo (pump (pumps 0 s) .answer) ≡ 20
 unfolding pumps pump quiet
-refused-first s bad = ap (λ (p : Pumped). outboundNo (p .answer)) (if-true (quiet s BadState) (pumpFrom s (s .emit)) bad)
+refused-first s bad =
+    ap (λ (p : Pumped). outboundNo (p .answer)) (if-true (quiet s BadState) (pumpFrom s (s .emit)) bad)
 
 -- and 22 pumps in a row do not all answer with a message
 pub at-most-21 : (s : Session) (n : ℕ) → ((j : ℕ) → j < n → outboundNo (pump (pumps j s) .answer) ≡ 0) → n ≤ 21

@@ -1,5 +1,5 @@
--- What a turn of each loop does: the search for the next seat, the count of held frames, and a byte of a run. And what comes of a kind's message.
--- Assumes nothing.
+-- What a turn of each loop does: the search for the next seat, the count of held frames, and a byte of a run. And what
+-- comes of a kind's message. Assumes nothing.
 use Prim.Native.Nat.{ℕ, zero, suc, _+_, _-_, _*_, _/_, _%_, _<_, _≤_}
 use mathlib.Core.Path.{_≡_, sym, ap, _∙_}
 use mathlib.Core.Bool.{true, false}
@@ -34,7 +34,8 @@ module _ (remotes k : ℕ) where
   unfolding nextRemote
   next-here l e = let left : seats - k ≡ suc (seats - (k + 1)) = omega arith in rw left (if-true _ _ e)
 
-  pub next-on : k < seats → has remotes k ≡ false → nextRemote remotes k (seats - k) ≡ nextRemote remotes (k + 1) (seats - (k + 1))
+  pub next-on : k < seats → has remotes k ≡ false
+      → nextRemote remotes k (seats - k) ≡ nextRemote remotes (k + 1) (seats - (k + 1))
   unfolding nextRemote
   next-on l e = let left : seats - k ≡ suc (seats - (k + 1)) = omega arith in rw left (if-false _ _ e)
 
@@ -87,13 +88,16 @@ span-ticks w seat tick (suc n) =
 
 pub carried-le : (s : Session) → carried s ≤ redundancy
 unfolding carried
-carried-le s = byTest (λ (x : ℕ). x ≤ redundancy) (λ _. omega arith) (λ _. span-le (s .window) (s .params .local) (s .next - 1) redundancy)
+carried-le s =
+    byTest (λ (x : ℕ). x ≤ redundancy) (λ _. omega arith)
+    (λ _. span-le (s .window) (s .params .local) (s .next - 1) redundancy)
 
 pub carried-next : (s : Session) → carried s ≤ s .next
 unfolding carried
 carried-next s =
     byTest (λ (x : ℕ). x ≤ s .next) (λ _. omega arith)
-    (λ e. let z = eqb-false (s .next) 0 e in omega (arith, span-ticks (s .window) (s .params .local) (s .next - 1) redundancy))
+    (λ e. let z = eqb-false (s .next) 0 e in
+    omega (arith, span-ticks (s .window) (s .params .local) (s .next - 1) redundancy))
 
 -- ---- a byte of a run
 
@@ -106,10 +110,12 @@ module _ (ring : List ℕ) (seat first count width j : ℕ) (some : 1 ≤ width)
 
   pub run-byte-is :
       getD ring ((seat * window + slotOf (first + j / width)) * maxWidth + j % width) 0
-      ≡ if ltb j (count * width) then getD (take width (drop (frameStart seat (first + j / width)) ring)) (j % width) 0 else 0
+      ≡ if ltb j (count * width)
+      then getD (take width (drop (frameStart seat (first + j / width)) ring)) (j % width) 0 else 0
   run-byte-is =
       sym
-      (if-true _ _ (lt-ltb j (count * width) in-run) ∙ getD-take width (drop (frameStart seat (first + j / width)) ring) (j % width) 0 byte-lt
+      (if-true _ _ (lt-ltb j (count * width) in-run)
+      ∙ getD-take width (drop (frameStart seat (first + j / width)) ring) (j % width) 0 byte-lt
       ∙ getD-drop (frameStart seat (first + j / width)) ring (j % width) 0)
 
 -- ---- what comes of a kind's message

@@ -34,12 +34,14 @@ use Rattle.pump.specs.declared.Saying.{Saying}
 use Rattle.pump.specs.declared.Saying.the-variants.{Says}
 use Rattle.pump.specs.declared.Outbound.the-variants.{Send}
 use Rattle.pump.specs.declared.Pumped.{Pumped}
-use Rattle.pump.specs.Pump.{span, carried, firstTick, runBytes, runByte, runFrom, runOf, inputsOf, digestOf, saying, quiet, passEnds, runBeside, send, sent, pump}
+use Rattle.pump.specs.Pump.{span, carried, firstTick, runBytes, runByte, runFrom, runOf, inputsOf}
+use Rattle.pump.specs.Pump.{digestOf, saying, quiet, passEnds, runBeside, send, sent, pump}
 use Rattle.pump.proofs.Loops.{span-ticks, carried-le, carried-next}
 use Rattle.pump.proofs.Laws.{told, Pumps, refused, ended, sends, pump-is, message-of}
 
 module _ (w : Window) (seat : ℕ) where
-  span-is : (tick n : ℕ) → span w seat tick (suc n) ≡ if isHeld w seat tick then (if eqb tick 0 then 1 else suc (span w seat (tick - 1) n)) else 0
+  span-is : (tick n : ℕ) → span w seat tick (suc n) ≡ if isHeld w seat tick
+      then (if eqb tick 0 then 1 else suc (span w seat (tick - 1) n)) else 0
   unfolding span
   span-is tick n = refl
 
@@ -47,8 +49,8 @@ module _ (w : Window) (seat : ℕ) where
   unfolding span
   span-zero tick = refl
 
-  held-on : (tick m i : ℕ) → isHeld w seat tick ≡ true → ((j : ℕ) → j < m → isHeld w seat (tick - 1 - j) ≡ true) → i < suc m
-      → isHeld w seat (tick - i) ≡ true
+  held-on : (tick m i : ℕ) → isHeld w seat tick ≡ true → ((j : ℕ) → j < m → isHeld w seat (tick - 1 - j) ≡ true)
+      → i < suc m → isHeld w seat (tick - i) ≡ true
   held-on tick m zero e f l = let q : tick - 0 ≡ tick = omega arith in rw q e
   held-on tick m (suc i) e f l = let q : tick - suc i ≡ tick - 1 - i = omega arith in rw q (f i (omega arith))
 
@@ -87,7 +89,8 @@ module _ (w : Window) (seat : ℕ) where
 pub carried-newest : (s : Session) → firstTick s + carried s ≡ s .next
 carried-newest s = omega (arith, carried-next s)
 
-pub carried-held : (s : Session) (i : ℕ) → i < carried s → isHeld (s .window) (s .params .local) (firstTick s + i) ≡ true
+pub carried-held : (s : Session) (i : ℕ) → i < carried s
+    → isHeld (s .window) (s .params .local) (firstTick s + i) ≡ true
 unfolding carried
 carried-held s i =
     byTest (λ (x : ℕ). i < x → isHeld (s .window) (s .params .local) (s .next - x + i) ≡ true)
@@ -97,14 +100,17 @@ carried-held s i =
     let seat = s .params .local in
     let tick = s .next - 1 in
     let n = span w seat tick redundancy in
-    let q : s .next - n + i ≡ tick - (n - 1 - i) = omega (arith, span-ticks w seat tick redundancy, eqb-false (s .next) 0 e) in
+    let q : s .next - n + i ≡ tick - (n - 1 - i) =
+    omega (arith, span-ticks w seat tick redundancy, eqb-false (s .next) 0 e) in
     rw q (span-held w seat tick redundancy (n - 1 - i) (omega arith)))
 
 -- and start at the eighth, at tick 0, or after one that is no longer held
-pub carried-stops : (s : Session) → carried s < redundancy → 1 ≤ firstTick s → isHeld (s .window) (s .params .local) (firstTick s - 1) ≡ false
+pub carried-stops : (s : Session) → carried s < redundancy → 1 ≤ firstTick s
+    → isHeld (s .window) (s .params .local) (firstTick s - 1) ≡ false
 unfolding carried
 carried-stops s =
-    byTest (λ (x : ℕ). x < redundancy → 1 ≤ s .next - x → isHeld (s .window) (s .params .local) (s .next - x - 1) ≡ false)
+    byTest
+    (λ (x : ℕ). x < redundancy → 1 ≤ s .next - x → isHeld (s .window) (s .params .local) (s .next - x - 1) ≡ false)
     {b = eqb (s .next) 0} {x = 0} {y = span (s .window) (s .params .local) (s .next - 1) redundancy}
     (λ e l m. absurd (omega (arith, eqb-true (s .next) 0 e)))
     (λ e l m.
@@ -133,18 +139,26 @@ module _ (w : Window) (seat first count width : ℕ) where
       → getD (runFrom w seat first count width) (i * width + k) 0 ≡ getD (frameOf w seat (first + i) width) k 0
   unfolding runByte
   run-digit i k a b l =
-      run-at (i * width + k) l ∙ if-true _ _ (lt-ltb (i * width + k) (count * width) (digits-lt a b)) ∙ rw (digits-div i b, digits-mod i b)
+      run-at (i * width + k) l ∙ if-true _ _ (lt-ltb (i * width + k) (count * width) (digits-lt a b))
+      ∙ rw (digits-div i b, digits-mod i b)
 
   pub run-frame : Sized w → seat < seats → width ≤ maxWidth → count ≤ redundancy → (i : ℕ) → i < count
       → frameAt (runFrom w seat first count width) width i ≡ frameOf w seat (first + i) width
   unfolding frameAt
   run-frame ok low short few i l =
       let run = runFrom w seat first count width in
-      let room : i * width + width ≤ runBytes = omega (arith, suc-mul i width, mul-le-mul {n₁ = suc i} {m₁ = width} {n₂ = redundancy} {m₂ = maxWidth} (omega arith) short) in
-      let long : length (take width (drop (i * width) run)) ≡ width = rw (length-take, length-drop, length-run) (omega arith) in
-      ext-getD 0 (take width (drop (i * width) run)) (frameOf w seat (first + i) width) (long ∙ sym (frame-length w seat (first + i) width ok low short))
+      let room : i * width + width ≤ runBytes = omega (
+        arith,
+        suc-mul i width,
+        mul-le-mul {n₁ = suc i} {m₁ = width} {n₂ = redundancy} {m₂ = maxWidth} (omega arith) short,
+      ) in
+      let long : length (take width (drop (i * width) run)) ≡ width =
+      rw (length-take, length-drop, length-run) (omega arith) in
+      ext-getD 0 (take width (drop (i * width) run)) (frameOf w seat (first + i) width)
+      (long ∙ sym (frame-length w seat (first + i) width ok low short))
       (λ k m.
-      getD-take width (drop (i * width) run) k 0 (omega arith) ∙ getD-drop (i * width) run k 0 ∙ run-digit i k l (omega arith) (omega arith))
+      getD-take width (drop (i * width) run) k 0 (omega arith) ∙ getD-drop (i * width) run k 0
+      ∙ run-digit i k l (omega arith) (omega arith))
 
 -- an Inputs and its run: the newest frames, each held, and each as the window has it
 pub record Carries (s : Session) (b : InputsBody) (run : List ℕ) : Type 0 where
@@ -153,12 +167,14 @@ pub record Carries (s : Session) (b : InputsBody) (run : List ℕ) : Type 0 wher
   pub width : b .width ≡ s .params .width
   pub newest : b .first + b .count ≡ s .next
   pub held : (i : ℕ) → i < b .count → isHeld (s .window) (s .params .local) (b .first + i) ≡ true
-  pub frame : (i : ℕ) → i < b .count → frameAt run (b .width) i ≡ frameOf (s .window) (s .params .local) (b .first + i) (b .width)
+  pub frame : (i : ℕ) → i < b .count
+      → frameAt run (b .width) i ≡ frameOf (s .window) (s .params .local) (b .first + i) (b .width)
 
 abbrev inputsNow : Session → InputsBody
 inputsNow s = record { first = firstTick s; count = carried s; width = s .params .width }
 
-carries : (s : Session) → badState (s .params) ≡ false → Sized (s .window) → (carried s ≡ 0 → ⊥) → Carries s (inputsNow s) (runOf s)
+carries : (s : Session) → badState (s .params) ≡ false → Sized (s .window) → (carried s ≡ 0 → ⊥)
+    → Carries s (inputsNow s) (runOf s)
 unfolding runOf
 carries s good ok some =
     let p = sound (s .params) good in
@@ -169,12 +185,13 @@ carries s good ok some =
       newest = carried-newest s;
       held = carried-held s;
       frame =
-          run-frame (s .window) (s .params .local) (firstTick s) (carried s) (s .params .width) ok (omega (arith, p .local, p .count .greatest))
-          (p .width .greatest) (carried-le s);
+          run-frame (s .window) (s .params .local) (firstTick s) (carried s) (s .params .width) ok
+          (omega (arith, p .local, p .count .greatest)) (p .width .greatest) (carried-le s);
     }
 
 -- the kind that says an Inputs
-says-inputs : (s : Session) (emit : Emit) (b : InputsBody) → saying s emit ≡ Says (Body′.Inputs b) → (carried s ≡ 0 → ⊥) × (inputsNow s ≡ b)
+says-inputs : (s : Session) (emit : Emit) (b : InputsBody) → saying s emit ≡ Says (Body′.Inputs b)
+    → (carried s ≡ 0 → ⊥) × (inputsNow s ≡ b)
 unfolding saying inputsOf digestOf
 says-inputs s Hello b e = let z : _≡_ {A = ℕ} 0 1 = cc in absurd (omega arith)
 says-inputs s Inputs b e =

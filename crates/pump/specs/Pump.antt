@@ -1,10 +1,11 @@
--- Document 01, "Pump and report": "A pass goes kind by kind, each over the remotes by rising seat: Hello while joining, or while playing until
--- every remote's playing mark is set; Inputs while playing; then Digest if owed (the last committed one stays owed). The first kind is chosen
--- when the pass before ends, Hello at the start; the next one by the call that finds no remote left. After an outcome a running pass goes from
--- Inputs on to Digest, but from Hello to its end; later passes send Bye, with pending minus one (0 at 0). The leave that ends a session restarts
--- at Bye. With no other call between, at most 21 messages precede 71. Inputs carries the newest local frame and up to seven before it, stopping
--- at the first no longer held. A remote's frame 64 ticks ahead empties that cell, so fewer than 8 may go; with the newest gone, Inputs is skipped."
--- Assumes nothing.
+-- Document 01, "Pump and report": "A pass goes kind by kind, each over the remotes by rising seat: Hello while joining,
+-- or while playing until every remote's playing mark is set; Inputs while playing; then Digest if owed (the last
+-- committed one stays owed). The first kind is chosen when the pass before ends, Hello at the start; the next one by
+-- the call that finds no remote left. After an outcome a running pass goes from Inputs on to Digest, but from Hello to
+-- its end; later passes send Bye, with pending minus one (0 at 0). The leave that ends a session restarts at Bye. With
+-- no other call between, at most 21 messages precede 71. Inputs carries the newest local frame and up to seven before
+-- it, stopping at the first no longer held. A remote's frame 64 ticks ahead empties that cell, so fewer than 8 may go;
+-- with the newest gone, Inputs is skipped." Assumes nothing.
 use Prim.Native.Nat.{ℕ, zero, suc, _+_, _-_, _*_, _/_, _%_, min}
 use mathlib.Core.Bool.{Bool, true, false, _&&_}
 use mathlib.Core.List.{List}
@@ -73,7 +74,8 @@ runBytes = redundancy * maxWidth
 unfoldable pub noRun : List ℕ
 noRun = replicate runBytes 0
 
--- byte j of the run of `count` frames of a seat from the tick `first` on: byte j mod width of frame j div width, and zero past the frames
+-- byte j of the run of `count` frames of a seat from the tick `first` on: byte j mod width of frame j div width, and
+-- zero past the frames
 unfoldable pub runByte : Window → (seat first count width j : ℕ) → ℕ
 runByte w seat first count width j =
     if ltb j (count * width)
@@ -128,8 +130,8 @@ unfoldable pub sayTo : Session → Emit → Target → Say
 sayTo s emit Nobody = No
 sayTo s emit (Seat k) = addressed k (saying s emit)
 
--- a kind's next message: to the first remote from `place` on, where there is one and the kind has something to say. A kind that has not skips
--- all its remotes
+-- a kind's next message: to the first remote from `place` on, where there is one and the kind has something to say. A
+-- kind that has not skips all its remotes
 unfoldable pub say : Session → Emit → ℕ → Say
 say s emit place = sayTo s emit (targetOf s place)
 

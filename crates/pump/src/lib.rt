@@ -1,5 +1,5 @@
-// The pump: what a session sends next. A pass goes kind by kind, each over the other seats, and answers with one message a call until
-// it has come to its end.
+// The pump: what a session sends next. A pass goes kind by kind, each over the other seats, and answers with one
+// message a call until it has come to its end.
 ghost use mathlib.Core.Path.{_≡_};
 ghost use mathlib.Core.Bool.{false};
 ghost use Prim.Native.Nat.{_+_, _-_, _*_, _/_, _%_, _<_, _≤_, min};
@@ -13,7 +13,9 @@ ghost use Rattle.wire.specs.Wire.{redundancy};
 ghost use Rattle.window.specs.Window.{frameStart};
 ghost use Rattle.pump.specs.Numbers.{outboundNo};
 ghost use Rattle.pump.specs.declared.Outbound.the-variants.{Nothing};
-ghost use Rattle.pump.specs.Pump.{quiet, nextRemote, span, carried, runFrom, runOf, helloOf, inputsOf, digestOf, saying, addressed, say, isOwed, firstKind, passEnds, runBeside, send, pumpDigest, pumpInputs, pumpHello, pumpBye, pumpFrom, pump};
+ghost use Rattle.pump.specs.Pump.{quiet, nextRemote, span, carried, runFrom, runOf, helloOf, inputsOf};
+ghost use Rattle.pump.specs.Pump.{digestOf, saying, addressed, say, isOwed, firstKind, passEnds, runBeside};
+ghost use Rattle.pump.specs.Pump.{send, pumpDigest, pumpInputs, pumpHello, pumpBye, pumpFrom, pump};
 use fingerprint::Cell;
 use logic::wide;
 use params::SessionParams;
@@ -38,7 +40,8 @@ pub enum Outbound {
     BadState,
 }
 
-// An enum holds no array, so an Inputs' run stands beside the answer. It is zero past the frames, and beside anything that is no Inputs.
+// An enum holds no array, so an Inputs' run stands beside the answer. It is zero past the frames, and beside anything
+// that is no Inputs.
 pub struct Pumped {
     pub session: Session,
     pub answer: Outbound,
@@ -104,8 +107,8 @@ fn next_remote(remotes: PeerSet, place: u8) -> Target
     Target::Nobody
 }
 
-// How many frames of the seat are held without a gap, from the newest back. The cells are looked at here and not by `holds`: a call by value
-// copies the window for each tick.
+// How many frames of the seat are held without a gap, from the newest back. The cells are looked at here and not by
+// `holds`: a call by value copies the window for each tick.
 fn span(w: Window, seat: u8, newest: u64) -> u8
     ensures { λ r. ⌜ r ≡ span w seat newest redundancy ⌝ }
 {
@@ -141,7 +144,9 @@ fn carried(s: Session) -> u8
 // Byte j of the run of `count` frames of a seat from the tick `first` on: byte j mod width of frame j div width.
 fn run_byte(ring: &[u8; window::RING], seat: u8, first: u64, count: u8, width: u8, j: usize) -> u8
     requires { ⌜ (seat < seats) × (1 ≤ width) × (width ≤ maxWidth) × (first + count ≤ most) ⌝ }
-    ensures { λ r. ⌜ r ≡ if ltb j (count * width) then getD (take width (drop (frameStart seat (first + j / width)) (now (ring .entry)))) (j % width) 0 else 0 ⌝ }
+    ensures { λ r. ⌜ r ≡ if ltb j (count * width)
+        then getD (take width (drop (frameStart seat (first + j / width)) (now (ring .entry)))) (j % width) 0
+        else 0 ⌝ }
 {
     let n = wide(width);
     if j >= wide(count) * n {

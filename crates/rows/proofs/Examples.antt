@@ -1,5 +1,5 @@
--- Worked examples, computed from the definitions: the step of document 01's case R, and one of three seats whose cells are in use again.
--- Assumes nothing.
+-- Worked examples, computed from the definitions: the step of document 01's case R, and one of three seats whose cells
+-- are in use again. Assumes nothing.
 use Prim.Native.Nat.{ℕ}
 use mathlib.Core.Path.{_≡_, refl}
 use mathlib.Core.List.{List, [], _∷_}
@@ -24,21 +24,25 @@ zeros : ℕ → List ℕ
 zeros n = replicate n 0
 
 rows-of-r : rowsOf case-r 0 2 1 ≡ (0x41 ∷ zeros 15) ∷ (0x42 ∷ zeros 15) ∷ replicate 6 (zeros 16)
-unfolding tabulate has setOf adding freshWindow heldBy isHeld frameOf written writeFrame padded rowsOf case-r zeros if_then_else_
+unfolding tabulate has setOf adding freshWindow heldBy isHeld frameOf written writeFrame padded rowsOf case-r zeros
+    if_then_else_
 rows-of-r = refl
 
 rows-later : rowsOf later 64 3 2 ≡ (1 ∷ 2 ∷ zeros 14) ∷ (3 ∷ 4 ∷ zeros 14) ∷ (5 ∷ 6 ∷ zeros 14) ∷ replicate 5 (zeros 16)
-unfolding tabulate has setOf adding freshWindow heldBy isHeld frameOf written writeFrame padded rowsOf case-r later zeros if_then_else_
+unfolding tabulate has setOf adding freshWindow heldBy isHeld frameOf written writeFrame padded rowsOf case-r later
+    zeros if_then_else_
 rows-later = refl
 
 -- a step hashes its tick, then the frames by rising seat, and the next step goes on from there
-hashed-of-r : stepDigest start 0 2 1 (rowsOf case-r 0 2 1) ≡ fnv start (0 ∷ 0 ∷ 0 ∷ 0 ∷ 0 ∷ 0 ∷ 0 ∷ 0 ∷ 0x41 ∷ 0x42 ∷ [])
+hashed-of-r : stepDigest start 0 2 1 (rowsOf case-r 0 2 1)
+    ≡ fnv start (0 ∷ 0 ∷ 0 ∷ 0 ∷ 0 ∷ 0 ∷ 0 ∷ 0 ∷ 0x41 ∷ 0x42 ∷ [])
 unfolding fnv leBytes heads stepDigest
 hashed-of-r = rw rows-of-r
 
 digests :
     stepDigest start 0 2 1 ((0x41 ∷ zeros 15) ∷ (0x42 ∷ zeros 15) ∷ replicate 6 (zeros 16))
-    ∷ stepDigest 7563201615092177098 64 3 2 ((1 ∷ 2 ∷ zeros 14) ∷ (3 ∷ 4 ∷ zeros 14) ∷ (5 ∷ 6 ∷ zeros 14) ∷ replicate 5 (zeros 16))
+    ∷ stepDigest 7563201615092177098 64 3 2
+    ((1 ∷ 2 ∷ zeros 14) ∷ (3 ∷ 4 ∷ zeros 14) ∷ (5 ∷ 6 ∷ zeros 14) ∷ replicate 5 (zeros 16))
     ∷ []
     ≡ 7563201615092177098 ∷ 6100455216326036373 ∷ []
 unfolding fnv leBytes heads stepDigest zeros

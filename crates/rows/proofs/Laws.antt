@@ -1,6 +1,5 @@
--- What later layers use of a step's rows: each is a frame and then zeros, the width's front of it is the frame, windows with equal frames
--- give equal rows, and the bytes that a step hashes are the frames by rising seat.
--- Assumes nothing.
+-- What later layers use of a step's rows: each is a frame and then zeros, the width's front of it is the frame, windows
+-- with equal frames give equal rows, and the bytes that a step hashes are the frames by rising seat. Assumes nothing.
 use Prim.Native.Nat.{ℕ, zero, suc, _+_, _^_, _<_, _≤_}
 use mathlib.Core.Path.{_≡_, refl, sym, ap, _∙_}
 use mathlib.Core.List.{List, [], _∷_, _++_, append-assoc, append-nil}
@@ -39,7 +38,8 @@ padded-past bytes i h =
     (λ l. List·getD-eq-default (padded bytes) 0 (rw length-padded l))
 
 -- the front of a row is what was put there
-pub take-padded : (bytes : List ℕ) (width : ℕ) → length bytes ≡ width → width ≤ maxWidth → take width (padded bytes) ≡ bytes
+pub take-padded : (bytes : List ℕ) (width : ℕ) → length bytes ≡ width → width ≤ maxWidth
+    → take width (padded bytes) ≡ bytes
 take-padded bytes width e h =
     let long : length (take width (padded bytes)) ≡ width = rw (length-take, length-padded) (omega arith) in
     ext-getD 0 (take width (padded bytes)) bytes (long ∙ sym e)
@@ -52,18 +52,22 @@ module _ (w : Window) (tick count width : ℕ) where
   unfolding rowsOf
   length-rows = length-tabulate seats _
 
-  pub row-is : (k : ℕ) → k < seats → getD (rowsOf w tick count width) k [] ≡ padded (if ltb k count then frameOf w k tick width else [])
+  pub row-is : (k : ℕ) → k < seats
+      → getD (rowsOf w tick count width) k [] ≡ padded (if ltb k count then frameOf w k tick width else [])
   unfolding rowsOf
   row-is k l = getD-tabulate seats _ [] k l
 
-  pub row-frame : (k : ℕ) → k < seats → k < count → getD (rowsOf w tick count width) k [] ≡ padded (frameOf w k tick width)
+  pub row-frame : (k : ℕ) → k < seats → k < count
+      → getD (rowsOf w tick count width) k [] ≡ padded (frameOf w k tick width)
   row-frame k l h = row-is k l ∙ ap padded (if-true _ _ (lt-ltb k count h))
 
   pub row-none : (k : ℕ) → k < seats → count ≤ k → getD (rowsOf w tick count width) k [] ≡ padded []
   row-none k l h = row-is k l ∙ ap padded (if-false _ _ (le-ltb k count h))
 
   row-past : (k i : ℕ) → seats ≤ k → getD (getD (rowsOf w tick count width) k []) i 0 ≡ 0
-  row-past k i l = let h : length (rowsOf w tick count width) ≤ k = rw length-rows l in rw (List·getD-eq-default (rowsOf w tick count width) [] h)
+  row-past k i l =
+      let h : length (rowsOf w tick count width) ≤ k = rw length-rows l in
+      rw (List·getD-eq-default (rowsOf w tick count width) [] h)
 
   -- zero beyond the width and beyond the roster, wherever that is
   pub past-width : (k i : ℕ) → width ≤ i → getD (getD (rowsOf w tick count width) k []) i 0 ≡ 0
@@ -71,7 +75,8 @@ module _ (w : Window) (tick count width : ℕ) where
   past-width k i h =
       caseLt k seats
       (λ l. rw (row-is k l)
-      (padded-past _ i (byTest (λ (xs : List ℕ). length xs ≤ i) (λ _. rw length-take (omega arith)) (λ _. omega arith))))
+      (padded-past _ i
+      (byTest (λ (xs : List ℕ). length xs ≤ i) (λ _. rw length-take (omega arith)) (λ _. omega arith))))
       (λ l. row-past k i l)
 
   pub past-roster : (k i : ℕ) → count ≤ k → getD (getD (rowsOf w tick count width) k []) i 0 ≡ 0
@@ -87,23 +92,27 @@ module _ (w : Window) (tick count width : ℕ) where
   row-byte k i l h a b = rw (row-frame k l h, padded-byte _ i b, getD-take {A = ℕ} width _ i 0 a, getD-drop)
 
   -- the front of a row is the frame
-  pub row-head : Sized w → (k : ℕ) → k < count → count ≤ seats → width ≤ maxWidth → take width (getD (rowsOf w tick count width) k []) ≡ frameOf w k tick width
+  pub row-head : Sized w → (k : ℕ) → k < count → count ≤ seats → width ≤ maxWidth
+      → take width (getD (rowsOf w tick count width) k []) ≡ frameOf w k tick width
   row-head ok k h most short =
       let l : k < seats = omega arith in
       rw (row-frame k l h) (take-padded (frameOf w k tick width) width (frame-length w k tick width ok l short) short)
 
 -- windows that hold the same frames give the same rows, and windows that give the same rows hold the same frames
 module _ (w v : Window) (tick count width : ℕ) where
-  pub rows-same : ((k : ℕ) → k < count → k < seats → frameOf w k tick width ≡ frameOf v k tick width) → rowsOf w tick count width ≡ rowsOf v tick count width
+  pub rows-same : ((k : ℕ) → k < count → k < seats → frameOf w k tick width ≡ frameOf v k tick width)
+      → rowsOf w tick count width ≡ rowsOf v tick count width
   rows-same same =
-      ext-getD [] (rowsOf w tick count width) (rowsOf v tick count width) (length-rows w tick count width ∙ sym (length-rows v tick count width))
+      ext-getD [] (rowsOf w tick count width) (rowsOf v tick count width)
+      (length-rows w tick count width ∙ sym (length-rows v tick count width))
       (λ k i.
       let l : k < seats = rw length-rows at i in
       caseLt k count
       (λ h. rw (row-frame w tick count width k l h, row-frame v tick count width k l h, same k h l))
       (λ h. rw (row-none w tick count width k l h, row-none v tick count width k l h)))
 
-  pub frames-same : Sized w → Sized v → count ≤ seats → width ≤ maxWidth → rowsOf w tick count width ≡ rowsOf v tick count width
+  pub frames-same : Sized w → Sized v → count ≤ seats → width ≤ maxWidth
+      → rowsOf w tick count width ≡ rowsOf v tick count width
       → (k : ℕ) → k < count → frameOf w k tick width ≡ frameOf v k tick width
   frames-same ok ko most short e k h =
       sym (row-head w tick count width ok k h most short) ∙ ap (λ (rows : List (List ℕ)). take width (getD rows k [])) e
@@ -111,7 +120,8 @@ module _ (w v : Window) (tick count width : ℕ) where
 
 -- ---- what a step hashes
 
-heads-more : (rows : List (List ℕ)) (width k : ℕ) → k < length rows → heads (suc k) width rows ≡ heads k width rows ++ take width (getD rows k [])
+heads-more : (rows : List (List ℕ)) (width k : ℕ) → k < length rows
+    → heads (suc k) width rows ≡ heads k width rows ++ take width (getD rows k [])
 unfolding heads
 heads-more [] width k l = absurd (omega arith)
 heads-more (row ∷ rows) width zero l = append-nil (take width row)
@@ -127,14 +137,20 @@ heads-rows w tick count width ok most short = upto count (omega arith)
     upto zero h = refl
     upto (suc k) h =
         let inside : k < length (rowsOf w tick count width) = rw length-rows (omega arith) in
-        rw (heads-more (rowsOf w tick count width) width k inside, upto k (omega arith), row-head w tick count width ok k h most short)
+        rw (
+          heads-more (rowsOf w tick count width) width k inside,
+          upto k (omega arith),
+          row-head w tick count width ok k h most short,
+        )
 
 -- so a step hashes its tick, then the frames by rising seat
 pub step-frames : (w : Window) (digest tick count width : ℕ) → Sized w → count ≤ seats → width ≤ maxWidth
-    → stepDigest digest tick count width (rowsOf w tick count width) ≡ fnv digest (leBytes 8 tick ++ framesOf w tick width count)
+    → stepDigest digest tick count width (rowsOf w tick count width)
+    ≡ fnv digest (leBytes 8 tick ++ framesOf w tick width count)
 unfolding stepDigest
 step-frames w digest tick count width ok most short = rw (heads-rows w tick count width ok most short)
 
-pub step-digest-lt : (digest tick count width : ℕ) (rows : List (List ℕ)) → digest < 2 ^ 64 → stepDigest digest tick count width rows < 2 ^ 64
+pub step-digest-lt : (digest tick count width : ℕ) (rows : List (List ℕ)) → digest < 2 ^ 64
+    → stepDigest digest tick count width rows < 2 ^ 64
 unfolding stepDigest
 step-digest-lt digest tick count width rows l = fnv-lt digest (leBytes 8 tick ++ heads count width rows) l

@@ -17,7 +17,8 @@ use Rattle.hash.proofs.Laws.{fnv-append}
 use Rattle.rows.specs.Rows.{heads}
 
 -- byte i of the width bytes at `at`, and 0 past them
-pub byte-of : (ring : List ℕ) (at width i : ℕ) → if ltb i width then getD ring (at + i) 0 else 0 ≡ getD (take width (drop at ring)) i 0
+pub byte-of : (ring : List ℕ) (at width i : ℕ)
+    → if ltb i width then getD ring (at + i) 0 else 0 ≡ getD (take width (drop at ring)) i 0
 byte-of ring at width i =
     let xs = drop at ring in
     byTest (λ (x : ℕ). x ≡ getD (take width xs) i 0)
@@ -25,7 +26,8 @@ byte-of ring at width i =
     (λ e. sym (List·getD-eq-default (take width xs) 0 (rw length-take (omega (arith, ltb-false i width e)))))
 
 -- a width of 0 gives no bytes
-pub take-if : (on : Bool) (width : ℕ) (xs : List ℕ) → take (if on then width else 0) xs ≡ if on then take width xs else []
+pub take-if : (on : Bool) (width : ℕ) (xs : List ℕ)
+    → take (if on then width else 0) xs ≡ if on then take width xs else []
 unfolding if_then_else_
 take-if true width xs = refl
 take-if false width xs = refl
@@ -38,7 +40,8 @@ heads-nil (suc count) width = refl
 module _ (count width : ℕ) (rows : List (List ℕ)) (h k : ℕ) where
   -- row k, then those after it
   pub heads-row : k < count → k < length rows
-      → fnv (fnv h (take width (getD rows k []))) (heads (count - (k + 1)) width (drop (k + 1) rows)) ≡ fnv h (heads (count - k) width (drop k rows))
+      → fnv (fnv h (take width (getD rows k []))) (heads (count - (k + 1)) width (drop (k + 1) rows))
+      ≡ fnv h (heads (count - k) width (drop k rows))
   unfolding heads
   heads-row below inside =
       let left : count - k ≡ suc (count - suc k) = omega arith in

@@ -1,5 +1,5 @@
--- In a record, a field that is an array of arrays stands at `map (map (λ v. v))` of the author's list, which is that list, but not by computation.
--- Assumes nothing.
+-- In a record, a field that is an array of arrays stands at `map (map (λ v. v))` of the author's list, which is that
+-- list, but not by computation. Assumes nothing.
 use mathlib.Core.Path.{_≡_, _∙_}
 use mathlib.Core.List.{List, map, map-id}
 

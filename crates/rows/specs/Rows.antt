@@ -1,6 +1,5 @@
--- Document 01, "Step and commit": a step hashes its tick, then frames by rising seat. Its frames go out as eight rows of sixteen bytes, by
--- value, zero beyond width and roster.
--- Assumes nothing.
+-- Document 01, "Step and commit": a step hashes its tick, then frames by rising seat. Its frames go out as eight rows
+-- of sixteen bytes, by value, zero beyond width and roster. Assumes nothing.
 use Prim.Native.Nat.{ℕ, zero, suc}
 use mathlib.Core.List.{List, [], _∷_, _++_}
 use lib.Dec.{ltb}

@@ -15,7 +15,8 @@ use window::Window;
 // One for each seat.
 pub const ROWS: usize = 8;
 
-// The rows in a record, so that they can stand beside a step. The two functions below are the only ones that touch the rows inside it.
+// The rows in a record, so that they can stand beside a step. The two functions below are the only ones that touch the
+// rows inside it.
 pub struct Frames {
     pub rows: [[u8; 16]; ROWS],
 }

@@ -1,6 +1,6 @@
--- Laws of reading a script: in how many pieces its bytes come does not matter, a whole record is run once, and one that is not whole waits. By these
--- a loop that runs the records at hand one by one, and keeps the rest, reads the script as the definition does.
--- Assumes nothing.
+-- Laws of reading a script: in how many pieces its bytes come does not matter, a whole record is run once, and one that
+-- is not whole waits. By these a loop that runs the records at hand one by one, and keeps the rest, reads the script as
+-- the definition does. Assumes nothing.
 use Prim.Native.Nat.{ℕ, suc, _<_}
 use mathlib.Core.Path.{_≡_, refl, sym, _∙_}
 use mathlib.Core.Bool.{Bool, true, false}
@@ -18,38 +18,57 @@ use Rattle.runner.specs.declared.Ran.{Ran}
 use Rattle.runner.specs.Runner.{Prints, runRecord, recordLines}
 use Rattle.runner.specs.Script.{Reading, hold, takeIn, reading}
 
-pub reading-append : (traced : Bool) (r : Reading) (xs ys : List ℕ) → reading traced r (xs ++ ys) ≡ reading traced (reading traced r xs) ys
+pub reading-append : (traced : Bool) (r : Reading) (xs ys : List ℕ)
+    → reading traced r (xs ++ ys) ≡ reading traced (reading traced r xs) ys
 unfolding reading
 reading-append traced r [] ys = refl
 reading-append traced r (x ∷ xs) ys = reading-append traced (takeIn traced r x) xs ys
 
 -- bytes that complete no record only add to the one that has begun
-waits : (traced : Bool) (s : Session) (said p xs : List ℕ) → ((k : ℕ) → k < length xs → recordSize (p ++ take (suc k) xs) ≡ 0)
-    → reading traced (record { session = s; begun = p; said = said }) xs ≡ record { session = s; begun = p ++ xs; said = said }
+waits : (traced : Bool) (s : Session) (said p xs : List ℕ)
+    → ((k : ℕ) → k < length xs → recordSize (p ++ take (suc k) xs) ≡ 0)
+    → reading traced (record { session = s; begun = p; said = said }) xs
+    ≡ record { session = s; begun = p ++ xs; said = said }
 unfolding reading takeIn hold
 waits traced s said p [] h = rw append-nil
 waits traced s said p (x ∷ xs) h =
     let none : eqb (recordSize (p ++ (x ∷ []))) 0 ≡ true = eq-eqb _ 0 (h 0 (omega arith)) in
-    rw (if-true _ _ none, waits traced s said (p ++ (x ∷ [])) xs (λ k l. rw append-assoc (h (suc k) (omega arith))), append-assoc)
+    rw (
+      if-true _ _ none,
+      waits traced s said (p ++ (x ∷ [])) xs (λ k l. rw append-assoc (h (suc k) (omega arith))),
+      append-assoc,
+    )
 
 module _ (traced : Bool) (s : Session) (said bytes : List ℕ) where
   -- a record that is not whole waits
   pub reading-part : recordSize bytes ≡ 0
-      → reading traced (record { session = s; begun = []; said = said }) bytes ≡ record { session = s; begun = bytes; said = said }
+      → reading traced (record { session = s; begun = []; said = said }) bytes
+      ≡ record { session = s; begun = bytes; said = said }
   reading-part e = waits traced s said [] bytes (λ k l. part-before bytes (suc k) e)
 
 module _ (traced : Bool) (s : Session) (said bytes : List ℕ) where
   -- a whole one is run, and its lines are said
   pub reading-whole : (n : ℕ) → recordSize bytes ≡ suc n
       → reading traced (record { session = s; begun = []; said = said }) (take (suc n) bytes)
-      ≡ record { session = runRecord s (take (suc n) bytes); begun = []; said = said ++ recordLines s (take (suc n) bytes) traced }
+      ≡ record {
+        session = runRecord s (take (suc n) bytes);
+        begun = [];
+        said = said ++ recordLines s (take (suc n) bytes) traced;
+      }
   unfolding reading takeIn hold
   reading-whole n e =
       let at = whole-before bytes n (rw e (omega arith)) in
-      let last : take (suc n) bytes ≡ take n bytes ++ (getD bytes n 0 ∷ []) = take-suc bytes n 0 (omega (arith, at .2, e)) in
-      let some : eqb (recordSize (take n bytes ++ (getD bytes n 0 ∷ []))) 0 ≡ false = rw (← last) (ne-eqb (recordSize (take (suc n) bytes)) 0 (λ z. absurd (omega (arith, z, rw e at (at .1))))) in
-      rw (last, reading-append traced _ (take n bytes) (getD bytes n 0 ∷ []), reading-part traced s said (take n bytes) (at .0)) (if-false _ _ some)
+      let last : take (suc n) bytes ≡ take n bytes ++ (getD bytes n 0 ∷ []) =
+      take-suc bytes n 0 (omega (arith, at .2, e)) in
+      let some : eqb (recordSize (take n bytes ++ (getD bytes n 0 ∷ []))) 0 ≡ false =
+      rw (← last) (ne-eqb (recordSize (take (suc n) bytes)) 0 (λ z. absurd (omega (arith, z, rw e at (at .1))))) in
+      rw (
+        last,
+        reading-append traced _ (take n bytes) (getD bytes n 0 ∷ []),
+        reading-part traced s said (take n bytes) (at .0),
+      ) (if-false _ _ some)
 
 -- the promise of a record fixes the session and the text: two answers that meet it are equal
-pub prints-one : {s : Session} {lines : List ℕ} {r q : Ran} → Prints s lines r → Prints s lines q → (r .session ≡ q .session) × (r .line ≡ q .line)
+pub prints-one : {s : Session} {lines : List ℕ} {r q : Ran} → Prints s lines r → Prints s lines q
+    → (r .session ≡ q .session) × (r .line ≡ q .line)
 prints-one x y = (x .next ∙ sym (y .next), x .wrote ∙ sym (y .wrote))

@@ -25,7 +25,8 @@ use Rattle.script.specs.declared.Call.the-variants.{Submit, Deliver, Advance, C
 use Rattle.script.specs.declared.Asked.{Asked}
 use Rattle.script.specs.declared.Asked.the-variants.{Bad, Open, Of}
 use Rattle.script.specs.Records.{asked, restOf}
-use Rattle.lines.specs.Lines.{Says, openLine, submitLine, deliverLine, advanceLine, commitLine, leaveLine, reportLine, badLine, noneLine, cutLine}
+use Rattle.lines.specs.Lines.{Says, openLine, submitLine, deliverLine, advanceLine}
+use Rattle.lines.specs.Lines.{commitLine, leaveLine, reportLine, badLine, noneLine, cutLine}
 use Rattle.trace_text.specs.Trace.{sendLines, stateLine}
 use Rattle.runner.specs.declared.Ran.{Ran}
 
@@ -36,7 +37,8 @@ pub record Runs (session : Session) (line : List ℕ) (r : Ran) : Type 0 where
 
 -- before a good open stands what no open takes
 unfoldable pub noParams : SessionParams
-noParams = record { count = 0; local = 0; width = 0; delay = 0; period = 0; seed = 0; content = 0; rules = 0; session = 0 }
+noParams =
+    record { count = 0; local = 0; width = 0; delay = 0; period = 0; seed = 0; content = 0; rules = 0; session = 0 }
 
 -- "flag 0 means none given, any other given"
 unfoldable pub worldOf : (flag digest : ℕ) → WorldDigest
@@ -69,7 +71,8 @@ lineOf s Leave bytes traced = leaveLine (leave s .answer)
 lineOf s Pump bytes traced = sendLines (pump s .answer) (pump s .run) traced
 lineOf s Report bytes traced = reportLine (desyncReport s .answer) (desyncReport s .report)
 
--- "A script kind from 1 to 12 with its right length is run; another prints `bad`. Before a good open, other well-formed records print `none`."
+-- "A script kind from 1 to 12 with its right length is run; another prints `bad`. Before a good open, other well-formed
+-- records print `none`."
 unfoldable pub runAsked : Session → Asked → List ℕ → Session
 runAsked s Bad bytes = s
 runAsked s (Open p) bytes = runOpen s p

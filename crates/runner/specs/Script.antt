@@ -1,6 +1,5 @@
--- Document 01, "The script runner `circle`": the lines printed for a script, as a definition over its bytes. A record is run as soon as its last
--- byte is there, so it does not matter in how many pieces the bytes come.
--- Assumes nothing.
+-- Document 01, "The script runner `circle`": the lines printed for a script, as a definition over its bytes. A record
+-- is run as soon as its last byte is there, so it does not matter in how many pieces the bytes come. Assumes nothing.
 use Prim.Native.Nat.{ℕ}
 use mathlib.Core.Bool.{Bool}
 use mathlib.Core.List.{List, [], _∷_, _++_}
@@ -12,7 +11,8 @@ use Rattle.session.specs.declared.Session.{Session}
 use Rattle.script.specs.Records.{recordSize}
 use Rattle.runner.specs.Runner.{noParams, runRecord, recordLines, endLines}
 
--- a script that is being read: the session that stands, the bytes of the record that has begun, and the lines that were said
+-- a script that is being read: the session that stands, the bytes of the record that has begun, and the lines that were
+-- said
 pub record Reading : Type 0 where
   pub session : Session
   pub begun : List ℕ

@@ -1,10 +1,12 @@
-// The script runner: one record in, its line out, and the session that stands after it. The programs add reading and writing, nothing else.
+// The script runner: one record in, its line out, and the session that stands after it. The programs add reading and
+// writing, nothing else.
 ghost use Prim.Native.Nat.{_≤_};
 ghost use mathlib.Core.Path.{_≡_};
 ghost use lib.ListN.{length};
 ghost use Rattle.text.specs.Text.{textLimit, freshText, put};
 ghost use Rattle.session.specs.Session.{fresh};
-ghost use Rattle.runner.specs.Runner.{noParams, worldOf, Runs, runOpen, openLineOf, nextOf, lineOf, runAsked, askedLine, shownLine, Prints, runRecord, recordLines, endLines};
+ghost use Rattle.runner.specs.Runner.{noParams, worldOf, Runs, runOpen, openLineOf, nextOf, lineOf, runAsked};
+ghost use Rattle.runner.specs.Runner.{askedLine, shownLine, Prints, runRecord, recordLines, endLines};
 use params::SessionParams;
 use script::Asked;
 use script::Call;

@@ -13,7 +13,8 @@ use Rattle.logic.proofs.Cases.{byTest, caseLt, if-true, if-false}
 use Rattle.script.specs.Records.{u8, u16, le, header, recordSize, restStart}
 
 -- one byte more in front: of the n bytes from a place on, those from the i-th on are read
-pub le-more : (p : List ℕ) (place i n : ℕ) → 0 < i → i ≤ n → u8 p (place + (i - 1)) + le p (place + i) (n - i) * 256 ≡ le p (place + (i - 1)) (n - (i - 1))
+pub le-more : (p : List ℕ) (place i n : ℕ) → 0 < i → i ≤ n
+    → u8 p (place + (i - 1)) + le p (place + i) (n - i) * 256 ≡ le p (place + (i - 1)) (n - (i - 1))
 unfolding le
 le-more p place i n h l =
     let e : n - (i - 1) ≡ suc (n - i) = omega arith in
@@ -42,7 +43,8 @@ from-on s i = take-all (length s - i) (drop i s) (rw length-drop (omega arith))
 -- a rest begins within its record
 pub rest-within : (kind n : ℕ) → restStart kind n ≤ n
 unfolding restStart
-rest-within kind n = byTest (λ x. x ≤ n) (λ e. omega arith) (λ e. byTest (λ x. x ≤ n) (λ f. omega arith) (λ f. omega arith))
+rest-within kind n =
+    byTest (λ x. x ≤ n) (λ e. omega arith) (λ e. byTest (λ x. x ≤ n) (λ f. omega arith) (λ f. omega arith))
 
 -- ---- where a record ends
 
@@ -69,7 +71,8 @@ size-before bytes k h =
     (λ enough. size-part (take k bytes) (rw (head-same bytes k (omega arith)) (omega arith)))
 
 -- and at its last byte it is
-pub size-at : (bytes : List ℕ) → header + u16 bytes 0 ≤ length bytes → recordSize (take (header + u16 bytes 0) bytes) ≡ header + u16 bytes 0
+pub size-at : (bytes : List ℕ) → header + u16 bytes 0 ≤ length bytes
+    → recordSize (take (header + u16 bytes 0) bytes) ≡ header + u16 bytes 0
 size-at bytes h =
     let n = header + u16 bytes 0 in
     let e = head-same bytes n (omega arith) in
@@ -84,7 +87,8 @@ part-before bytes k e =
     (λ m. rw (take-all k bytes (omega arith)) e))
     (λ l. absurd (omega (arith, size-whole bytes l, e)))
 
-pub whole-before : (bytes : List ℕ) (k : ℕ) → k < recordSize bytes → (recordSize (take k bytes) ≡ 0) × (recordSize (take (recordSize bytes) bytes) ≡ recordSize bytes) × (recordSize bytes ≤ length bytes)
+pub whole-before : (bytes : List ℕ) (k : ℕ) → k < recordSize bytes → (recordSize (take k bytes) ≡ 0)
+    × (recordSize (take (recordSize bytes) bytes) ≡ recordSize bytes) × (recordSize bytes ≤ length bytes)
 whole-before bytes k h =
     caseLt (length bytes) (header + u16 bytes 0)
     (λ l. absurd (omega (arith, size-part bytes l, h)))

@@ -1,6 +1,6 @@
--- Document 01, "The script runner `circle`": "records: u16 payload length, u16 kind, payload, little-endian. Payload fields are u64, but one byte
--- for seats, the flag and what is u8 in the Rust", and the kinds 1 to 12 with their payloads.
--- Assumes nothing.
+-- Document 01, "The script runner `circle`": "records: u16 payload length, u16 kind, payload, little-endian. Payload
+-- fields are u64, but one byte for seats, the flag and what is u8 in the Rust", and the kinds 1 to 12 with their
+-- payloads. Assumes nothing.
 use Prim.Native.Nat.{ℕ, zero, suc, _+_, _*_, min}
 use mathlib.Core.Bool.{Bool, true, false, not, _&&_}
 use mathlib.Core.List.{List}
@@ -80,10 +80,20 @@ paramsFrom p = record {
   session = u64 p 29;
 }
 
--- 3 Hello, 4 Inputs, 5 Digest, 6 Bye: the Rust record's fields in order, after source, sender and session; 7 other: a byte
+-- 3 Hello, 4 Inputs, 5 Digest, 6 Bye: the Rust record's fields in order, after source, sender and session; 7 other: a
+-- byte
 unfoldable pub bodyFrom : ℕ → List ℕ → Body
 bodyFrom kind p =
-    if eqb kind 3 then Hello (record { agreement = u64 p 10; content = u64 p 18; rules = u64 p 26; seed = u64 p 34; count = u8 p 42; width = u8 p 43; delay = u8 p 44; period = u8 p 45 })
+    if eqb kind 3 then Hello (record {
+      agreement = u64 p 10;
+      content = u64 p 18;
+      rules = u64 p 26;
+      seed = u64 p 34;
+      count = u8 p 42;
+      width = u8 p 43;
+      delay = u8 p 44;
+      period = u8 p 45;
+    })
     else if eqb kind 4 then Inputs (record { first = u64 p 10; count = u8 p 18; width = u8 p 19 })
     else if eqb kind 5 then Digest (record { tick = u64 p 10; state = u64 p 18; input = u64 p 26 })
     else if eqb kind 6 then Bye (record { tick = u64 p 10 })

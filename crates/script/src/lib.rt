@@ -2,7 +2,8 @@
 ghost use Prim.Native.Nat.{_+_, _*_, _^_, _<_, _≤_};
 ghost use mathlib.Core.Path.{_≡_};
 ghost use lib.ListN.{length, getD};
-ghost use Rattle.script.specs.Records.{le, longest, recordSize, rightLength, paramsFrom, bodyFrom, messageFrom, callFrom, asked, restStart, restOf};
+ghost use Rattle.script.specs.Records.{le, longest, recordSize, rightLength, paramsFrom};
+ghost use Rattle.script.specs.Records.{bodyFrom, messageFrom, callFrom, asked, restStart, restOf};
 use logic::is_outside;
 use logic::least;
 use logic::long;

@@ -1,5 +1,5 @@
--- Each call of the host as one law by cases: what holds of every refusal and of every way in which the call goes on holds of the call.
--- Assumes nothing.
+-- Each call of the host as one law by cases: what holds of every refusal and of every way in which the call goes on
+-- holds of the call. Assumes nothing.
 use Prim.Native.Nat.{ℕ}
 use mathlib.Core.Path.{_≡_, refl}
 use mathlib.Core.Logic.{_≢_}
@@ -30,7 +30,8 @@ use Rattle.session.specs.declared.Advanced.{Advanced}
 use Rattle.session.specs.Numbers.{submitNo, commitNo}
 use Rattle.session.specs.Session.{withCommit, everySeatHeld, started}
 use Rattle.session.specs.Host.{submitted, press, submitOpen, submitBy, submit}
-use Rattle.session.specs.Step.{idle, takeStep, stall, drain, playOn, advanceBy, advanceFrom, advance, committed, mismatch, keepDigest, commitFrom, commit}
+use Rattle.session.specs.Step.{idle, takeStep, stall, drain, playOn, advanceBy, advanceFrom}
+use Rattle.session.specs.Step.{advance, committed, mismatch, keepDigest, commitFrom, commit}
 
 -- ---- submit
 
@@ -56,7 +57,8 @@ module _ (P : Submitted → Type 0) (s : Session) (input : List ℕ)
 
 module _ (P : Committed → Type 0) (s : Session) (tick : ℕ) (given : WorldDigest)
     (refused : (a : Commit) → commitNo a ≢ 0 → P (committed s a))
-    (done : (due : Bool) → s .step ≡ Out tick due → mismatch due given ≡ false → P (committed (keepDigest (withCommit s (raised (s .pending))) tick given) Commit′.Done)) where
+    (done : (due : Bool) → s .step ≡ Out tick due → mismatch due given ≡ false
+    → P (committed (keepDigest (withCommit s (raised (s .pending))) tick given) Commit′.Done)) where
   step-cases : (o : Outstanding) → s .step ≡ o → P (commitFrom s tick given o)
   unfolding commitFrom
   step-cases Free e = refused (Commit′.OutOfOrder _ _) (eqb-false 51 0 refl)

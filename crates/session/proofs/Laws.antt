@@ -1,6 +1,5 @@
--- What a reader of the rules wants to see said of the host's calls: a refusal changes nothing, the first outcome stays, and no counter changes but
--- the count of a stall.
--- Assumes nothing.
+-- What a reader of the rules wants to see said of the host's calls: a refusal changes nothing, the first outcome stays,
+-- and no counter changes but the count of a stall. Assumes nothing.
 use Prim.Native.Nat.{ℕ}
 use mathlib.Core.Path.{_≡_, refl, ap, _∙_}
 use mathlib.Core.Logic.{_≢_}
@@ -64,7 +63,8 @@ press-stays s input = record { outcome = λ o e. e; stats = refl }
 pub of-submit : (s : Session) (input : List ℕ) → OfSubmit s (submit s input)
 of-submit s input =
     submit-cases (OfSubmit s) s input (λ a n. record { refused = λ _. refl; stays = same s })
-    (λ _. record { refused = λ n. absurd (n refl); stays = after (press-stays s input) (started-stays (press s input)) })
+    (λ _.
+    record { refused = λ n. absurd (n refl); stays = after (press-stays s input) (started-stays (press s input)) })
 
 -- ---- commit
 
@@ -92,11 +92,13 @@ of-commit s tick given =
 
 -- ---- leave: after any outcome it gives the standing one and changes nothing, and so does 20
 
-pub leave-again : (s : Session) (o : Outcome) → badState (s .params) ≡ false → s .outcome ≡ Over o → leave s ≡ record { session = s; answer = Leave′.Ended o }
+pub leave-again : (s : Session) (o : Outcome) → badState (s .params) ≡ false → s .outcome ≡ Over o
+    → leave s ≡ record { session = s; answer = Leave′.Ended o }
 unfolding leave leaveBy
 leave-again s o good e = if-false _ _ good ∙ ap (leaveBy s) e
 
-pub leave-refused : (s : Session) → badState (s .params) ≡ true → leave s ≡ record { session = s; answer = Leave′.BadState }
+pub leave-refused : (s : Session) → badState (s .params) ≡ true
+    → leave s ≡ record { session = s; answer = Leave′.BadState }
 unfolding leave
 leave-refused s bad = if-true _ _ bad
 
@@ -116,6 +118,30 @@ pub of-advance : (s : Session) → OfAdvance s (advance s)
 unfolding takeStep stall stalledOf
 of-advance s =
     advance-cases (OfAdvance s) s
-    (λ a e. record { idle = λ _. refl; outcome = refl; refused = refl; repeated = refl; contradicted = refl; beyond = refl; digests = refl })
-    (λ _ _ _. record { idle = λ e. absurd (false≢true e); outcome = refl; refused = refl; repeated = refl; contradicted = refl; beyond = refl; digests = refl })
-    record { idle = λ e. absurd (false≢true e); outcome = refl; refused = refl; repeated = refl; contradicted = refl; beyond = refl; digests = refl }
+    (λ a e. record {
+      idle = λ _. refl;
+      outcome = refl;
+      refused = refl;
+      repeated = refl;
+      contradicted = refl;
+      beyond = refl;
+      digests = refl;
+    })
+    (λ _ _ _. record {
+      idle = λ e. absurd (false≢true e);
+      outcome = refl;
+      refused = refl;
+      repeated = refl;
+      contradicted = refl;
+      beyond = refl;
+      digests = refl;
+    })
+    record {
+      idle = λ e. absurd (false≢true e);
+      outcome = refl;
+      refused = refl;
+      repeated = refl;
+      contradicted = refl;
+      beyond = refl;
+      digests = refl;
+    }

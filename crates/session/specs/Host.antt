@@ -40,7 +40,8 @@ press s input = withPress s (writeFrame (s .window) (s .params .local) (s .next)
 -- 41 length; 42 next local tick minus pending at least 64
 unfoldable pub submitOpen : Session → List ℕ → Submitted
 submitOpen s input =
-    if not (eqb (length input) (s .params .width)) then submitted s (Submit′.WrongWidth (length input) (s .params .width))
+    if not (eqb (length input) (s .params .width))
+    then submitted s (Submit′.WrongWidth (length input) (s .params .width))
     else if leb window (s .next - s .pending) then submitted s (Submit′.WindowFull (s .next) (s .pending))
     else submitted (started (press s input)) (Submit′.Accepted (s .next))
 
@@ -53,8 +54,8 @@ submit s input = if badState (s .params) then submitted s Submit′.BadState els
 
 -- ---- leave
 
--- leaving reports pending minus one, or 0 at pending 0, and restarts the pump at Bye; a leave after any outcome gives the standing one and changes
--- nothing
+-- leaving reports pending minus one, or 0 at pending 0, and restarts the pump at Bye; a leave after any outcome gives
+-- the standing one and changes nothing
 unfoldable pub leaveBy : Session → Standing → Left
 leaveBy s (Over o) = record { session = s; answer = Leave′.Ended o }
 leaveBy s Open = record {

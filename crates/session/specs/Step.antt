@@ -54,7 +54,8 @@ stepRows s = rowsOf (s .window) (s .pending) (s .params .count) (s .params .widt
 unfoldable pub takeStep : Session → Advanced
 takeStep s =
     beside
-    (withStep s (stepDigest (s .digest) (s .pending) (s .params .count) (s .params .width) (stepRows s)) (Out (s .pending) (isDue s)))
+    (withStep s (stepDigest (s .digest) (s .pending) (s .params .count) (s .params .width) (stepRows s))
+    (Out (s .pending) (isDue s)))
     (Advance′.Step (record { tick = s .pending; due = isDue s; count = s .params .count; width = s .params .width }))
     (stepRows s)
 
@@ -63,7 +64,8 @@ unfoldable pub stall : Session → Advanced
 stall s =
     let counters = stalledOf (s .stats) (eqb (s .stalled) (s .pending)) in
     idle (withStall s counters (s .pending))
-    (Advance′.Stalled (s .pending) (less seats (rosterOf (s .params)) (heldBy (s .window) (s .pending))) (counters .«stall_pumps»))
+    (Advance′.Stalled (s .pending) (less seats (rosterOf (s .params)) (heldBy (s .window) (s .pending)))
+    (counters .«stall_pumps»))
 
 -- after an outcome that is no desync, the ticks that every seat is held for are still played
 unfoldable pub drain : Session → Outcome → Advanced
@@ -102,14 +104,16 @@ committed s answer = record { session = s; answer = answer }
 -- a digest goes in its cell, is owed to the pump and is judged
 unfoldable pub keepDigest : Session → ℕ → WorldDigest → Session
 keepDigest s tick Absent = s
-keepDigest s tick (Present state) = judge (withOwnPrint s (record { tick = tick; state = state; input = s .digest })) tick
+keepDigest s tick (Present state) =
+    judge (withOwnPrint s (record { tick = tick; state = state; input = s .digest })) tick
 
 -- due differs from given
 abbrev pub mismatch : Bool → WorldDigest → Bool
 mismatch due Absent = due
 mismatch due (Present state) = not due
 
--- no step outstanding, 51 expecting pending; another tick, 51; due differs from given, 52; then pending rises by one, and a digest is kept
+-- no step outstanding, 51 expecting pending; another tick, 51; due differs from given, 52; then pending rises by one,
+-- and a digest is kept
 unfoldable pub commitFrom : Session → ℕ → WorldDigest → Outstanding → Committed
 commitFrom s tick given Free = committed s (Commit′.OutOfOrder tick (s .pending))
 commitFrom s tick given (Out expected due) =

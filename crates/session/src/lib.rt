@@ -1,11 +1,12 @@
-// The session of one player: what it holds, and the calls its host makes. Each call takes the session and hands the next one back beside
-// its answer. `deliver` and `pump` are the crates that bring messages in and out.
+// The session of one player: what it holds, and the calls its host makes. Each call takes the session and hands the
+// next one back beside its answer. `deliver` and `pump` are the crates that bring messages in and out.
 ghost use mathlib.Core.Path.{_≡_};
 ghost use mathlib.Core.Bool.{false};
 ghost use Rattle.params.specs.Params.{badState};
 ghost use Rattle.session.specs.Session.{everySeatHeld, ended, started};
 ghost use Rattle.session.specs.Host.{opened, submit, leave};
-ghost use Rattle.session.specs.Step.{beside, idle, takeStep, stall, drain, playOn, advance, judge, mismatch, keepDigest, commit};
+ghost use Rattle.session.specs.Step.{beside, idle, takeStep, stall, drain, playOn};
+ghost use Rattle.session.specs.Step.{advance, judge, mismatch, keepDigest, commit};
 ghost use Rattle.session.specs.Numbers.{submitNo, advanceNo, commitNo, leaveNo};
 use fingerprint::Cell;
 use fingerprint::Fingerprint;
@@ -238,8 +239,8 @@ fn idle(session: Session, answer: Advance) -> Advanced
 }
 
 impl Session {
-    // A session that has not started. Where the parameters fail a check it is handed back all the same, and every call on it is
-    // refused with 20.
+    // A session that has not started. Where the parameters fail a check it is handed back all the same, and every call
+    // on it is refused with 20.
     pub fn open(params: SessionParams) -> Opened
         ensures { λ r. ⌜ r ≡ opened params ⌝ }
     {

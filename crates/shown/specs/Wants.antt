@@ -10,8 +10,8 @@ use Rattle.params.specs.Params.{badState}
 use Rattle.session.specs.Session.{isOver}
 use Rattle.session.specs.declared.Session.{Session}
 
--- no after an outcome or for a bad record; else yes exactly when next local tick is at most pending plus delay and less than 64 above pending
--- (sums and differences saturate)
+-- no after an outcome or for a bad record; else yes exactly when next local tick is at most pending plus delay and less
+-- than 64 above pending (sums and differences saturate)
 unfoldable pub wantsLocal : Session → Bool
 wantsLocal s =
     if isOver (s .outcome) then false

@@ -36,8 +36,8 @@ pub fn pending_tick(s: Session) -> u64
     s.pending
 }
 
-// The tick that the next submit fills. A press that depends on the tick goes by this one, and never by the pending tick, which moves with
-// the radio.
+// The tick that the next submit fills. A press that depends on the tick goes by this one, and never by the pending
+// tick, which moves with the radio.
 pub fn next_local_tick(s: Session) -> u64
     ensures { λ r. ⌜ r ≡ s .next ⌝ }
 {
@@ -66,8 +66,8 @@ pub fn input_digest(s: Session) -> u64
     s.digest
 }
 
-// Whether the host owes a press now. Ask once a turn, and submit at most once: whoever submits until it says no fills the window with one
-// moment's press.
+// Whether the host owes a press now. Ask once a turn, and submit at most once: whoever submits until it says no fills
+// the window with one moment's press.
 pub fn wants_local(s: Session) -> bool
     ensures { λ r. ⌜ r ≡ wantsLocal s ⌝ }
 {

@@ -1,5 +1,5 @@
--- Both sides of each number that counts, and of the end at 2^64-1, computed from the definitions: one table under a single proof for each call.
--- Assumes nothing.
+-- Both sides of each number that counts, and of the end at 2^64-1, computed from the definitions: one table under a
+-- single proof for each call. Assumes nothing.
 use mathlib.Core.Path.{_≡_, refl}
 use mathlib.Core.Bool.{true, false}
 use mathlib.Core.List.{[], _∷_}

@@ -1,6 +1,6 @@
--- Document 01: "Refused deliveries 21 to 31 raise `datagrams_refused`; 27, 28 and 30 raise their own counter too. .. Counters stop at 2^64-1."
--- And of a stall: "a count, `stall_pumps`, raised by one, from 0 if the tick isn't the last stalled one".
--- Assumes nothing.
+-- Document 01: "Refused deliveries 21 to 31 raise `datagrams_refused`; 27, 28 and 30 raise their own counter too. ..
+-- Counters stop at 2^64-1." And of a stall: "a count, `stall_pumps`, raised by one, from 0 if the tick isn't the last
+-- stalled one". Assumes nothing.
 use Prim.Native.Nat.{ℕ}
 use mathlib.Core.Bool.{Bool, not}
 use lib.Dec.{eqb}

@@ -1,5 +1,5 @@
--- Laws of the loop over the bytes at hand: it begins with nothing used, and a whole record more is run as the definition runs it.
--- Assumes nothing.
+-- Laws of the loop over the bytes at hand: it begins with nothing used, and a whole record more is run as the
+-- definition runs it. Assumes nothing.
 use Prim.Native.Nat.{ℕ, zero, suc, _+_, _≤_, _<_}
 use mathlib.Core.Path.{_≡_, refl, sym, ap, _∙_}
 use mathlib.Core.Bool.{Bool}
@@ -42,6 +42,12 @@ module _ (traced : Bool) (s : Session) (bytes : List ℕ) where
       let same : r ≡ record { session = t; begun = []; said = r .said } =
       ap {B = Reading} (λ (x : Session). record { session = x; begun = r .begun; said = r .said }) (u .next)
       ∙ ap {B = Reading} (λ (b : List ℕ). record { session = t; begun = b; said = r .said }) (u .whole) in
-      let all = ap (reading traced (from s)) (take-add used (suc n) bytes) ∙ reading-append traced (from s) (take used bytes) (take (suc n) rest)
-      ∙ ap (λ (x : Reading). reading traced x (take (suc n) rest)) same ∙ reading-whole traced t (r .said) rest n (sym e) in
-      record { within = omega (arith, rw length-drop at room, u .within); next = ap (λ (x : Reading). x .session) all; whole = ap (λ (x : Reading). x .begun) all }
+      let all = ap (reading traced (from s)) (take-add used (suc n) bytes)
+      ∙ reading-append traced (from s) (take used bytes) (take (suc n) rest)
+      ∙ ap (λ (x : Reading). reading traced x (take (suc n) rest)) same
+      ∙ reading-whole traced t (r .said) rest n (sym e) in
+      record {
+        within = omega (arith, rw length-drop at room, u .within);
+        next = ap (λ (x : Reading). x .session) all;
+        whole = ap (λ (x : Reading). x .begun) all;
+      }

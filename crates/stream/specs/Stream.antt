@@ -1,5 +1,5 @@
--- What the loop over the bytes at hand keeps to: it runs the records that the definition of a script's lines runs, in order and each once, and what
--- it leaves is the record that has begun. What is read and written is beyond a contract.
+-- What the loop over the bytes at hand keeps to: it runs the records that the definition of a script's lines runs, in
+-- order and each once, and what it leaves is the record that has begun. What is read and written is beyond a contract.
 -- Assumes nothing.
 use Prim.Native.Nat.{ℕ, _≤_, _<_}
 use mathlib.Core.Path.{_≡_}
@@ -14,8 +14,8 @@ use Rattle.stream.specs.declared.Progress.{Progress}
 abbrev pub buffer : ℕ
 buffer = 131072
 
--- the size is that of the record that comes next, and where there is none whole, what is left is shorter than the longest record. Where a line could
--- not be written nothing comes next
+-- the size is that of the record that comes next, and where there is none whole, what is left is shorter than the
+-- longest record. Where a line could not be written nothing comes next
 pub record Ready (bytes : List ℕ) (p : Progress) : Type 0 where
   pub going : p .wrote ≡ true → p .size ≡ recordSize (drop (p .used) bytes)
   pub short : p .wrote ≡ true → p .size ≡ 0 → length (drop (p .used) bytes) < longest

@@ -1,5 +1,5 @@
-// Standard input to standard output, over the runner: the bytes at hand stand at the front of a buffer, every whole record among them is run
-// and its lines are written, and the rest waits for more.
+// Standard input to standard output, over the runner: the bytes at hand stand at the front of a buffer, every whole
+// record among them is run and its lines are written, and the rest waits for more.
 ghost use Prim.Native.Nat.{_+_, _≤_, _<_};
 ghost use mathlib.Core.Path.{_≡_};
 ghost use mathlib.Core.Bool.{true};
@@ -138,7 +138,8 @@ fn take_turn(t: Waiting, buf: &mut [u8], traced: bool) -> Waiting
     run_front(session, buf, have + n, traced)
 }
 
-// A proved loop has to end, and nothing says that the input does: the turns are counted down from a number that no run uses up.
+// A proved loop has to end, and nothing says that the input does: the turns are counted down from a number that no run
+// uses up.
 pub fn run(traced: bool) {
     let mut buf = [0u8; BUFFER];
     let mut t = Waiting {

@@ -18,12 +18,14 @@ module _ (text out : List ℕ) where
       let f = lt-leb (length text) (length out) l in
       record { answered = sym (if-false _ _ f); lent = sym (if-false _ _ f) }
 
-  pub with-room : (n : ℕ) (after : List ℕ) → length text ≡ n → n ≤ length out → after ≡ text ++ drop n out → Copies text out (Written n) after
+  pub with-room : (n : ℕ) (after : List ℕ) → length text ≡ n → n ≤ length out → after ≡ text ++ drop n out
+      → Copies text out (Written n) after
   unfolding copyAnswer copyInto
   with-room n after e l a =
       let f = le-leb (length text) (length out) (omega arith) in
       record { answered = rw (if-true _ _ f, e); lent = rw (if-true _ _ f, e) a }
 
 -- the promise fixes the answer and every lent byte: two that meet it are equal
-pub copies-one : {text out : List ℕ} {a b : Copied} {after other : List ℕ} → Copies text out a after → Copies text out b other → (a ≡ b) × (after ≡ other)
+pub copies-one : {text out : List ℕ} {a b : Copied} {after other : List ℕ} → Copies text out a after
+    → Copies text out b other → (a ≡ b) × (after ≡ other)
 copies-one x y = (x .answered ∙ sym (y .answered), x .lent ∙ sym (y .lent))

@@ -1,5 +1,5 @@
--- Laws of decimals: what one is, how long it is at most, and that a reader gets the number back, so no two are written alike.
--- Assumes nothing.
+-- Laws of decimals: what one is, how long it is at most, and that a reader gets the number back, so no two are written
+-- alike. Assumes nothing.
 use Prim.Native.Nat.{ℕ, zero, suc, _+_, _*_, _-_, _≤_, _<_, _/_, _%_, _^_}
 use mathlib.Core.Path.{_≡_, refl, sym, ap, _∙_}
 use mathlib.Core.List.{List, [], _∷_, _++_, append-assoc}
@@ -71,17 +71,25 @@ read-on zero n rest h = absurd (omega arith)
 read-on (suc bound) n rest h =
     caseLt n 10
     (λ l. rw (decimal-small n l, read-digit 0 n rest l, zero-mul, zero-add))
-    (λ l. rw (decimal-more n l, append-assoc, read-on bound (n / 10) _ (omega arith), read-digit (n / 10) (n % 10) rest (omega arith), div-add-mod'))
+    (λ l. rw (
+      decimal-more n l,
+      append-assoc,
+      read-on bound (n / 10) _ (omega arith),
+      read-digit (n / 10) (n % 10) rest (omega arith),
+      div-add-mod',
+    ))
 
 -- the reader gives back the number and what stands after it
 pub read-decimal : (n : ℕ) (rest : List ℕ) → NoDigit rest → readDecimal (decimal n ++ rest) ≡ (n, rest)
 read-decimal n rest h = read-on (suc n) n rest (omega arith) ∙ read-stop n rest h
 
 pub decimal-injective : (m n : ℕ) → decimal m ≡ decimal n → m ≡ n
-decimal-injective m n e = ap (λ p. p .0) (sym (read-decimal m [] tt) ∙ ap (λ l. readDecimal (l ++ [])) e ∙ read-decimal n [] tt)
+decimal-injective m n e =
+    ap (λ p. p .0) (sym (read-decimal m [] tt) ∙ ap (λ l. readDecimal (l ++ [])) e ∙ read-decimal n [] tt)
 
 -- also where more follows, if that begins with no digit
-pub decimal-cancel : (m n : ℕ) (xs ys : List ℕ) → NoDigit xs → NoDigit ys → decimal m ++ xs ≡ decimal n ++ ys → (m ≡ n) × (xs ≡ ys)
+pub decimal-cancel : (m n : ℕ) (xs ys : List ℕ) → NoDigit xs → NoDigit ys → decimal m ++ xs ≡ decimal n ++ ys
+    → (m ≡ n) × (xs ≡ ys)
 decimal-cancel m n xs ys hx hy e =
     let p = sym (read-decimal m xs hx) ∙ ap readDecimal e ∙ read-decimal n ys hy in
     (ap (λ q. q .0) p, ap (λ q. q .1) p)

@@ -52,7 +52,8 @@ pub read-hex : (k n : ℕ) (rest : List ℕ) → n < 16 ^ k → readHex k 0 (hex
 unfolding readHex
 read-hex k n rest h = rw add-zero at (read-on k 0 n rest h)
 
-pub hex-cancel : (k m n : ℕ) (xs ys : List ℕ) → m < 16 ^ k → n < 16 ^ k → hexDigits k m ++ xs ≡ hexDigits k n ++ ys → (m ≡ n) × (xs ≡ ys)
+pub hex-cancel : (k m n : ℕ) (xs ys : List ℕ) → m < 16 ^ k → n < 16 ^ k → hexDigits k m ++ xs ≡ hexDigits k n ++ ys
+    → (m ≡ n) × (xs ≡ ys)
 hex-cancel k m n xs ys hm hn e =
     let p = sym (read-hex k m xs hm) ∙ ap (readHex k 0) e ∙ read-hex k n ys hn in
     (ap (λ q. q .0) p, ap (λ q. q .1) p)

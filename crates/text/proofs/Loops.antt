@@ -53,7 +53,8 @@ hex-bytes-one : (b : ℕ) → hexBytes (b ∷ []) ≡ hexDigits 2 b
 unfolding hexBytes
 hex-bytes-one b = append-nil (hexDigits 2 b)
 
-pub hex-bytes-more : (s : List ℕ) (i : ℕ) → i < length s → hexBytes (take (i + 1) s) ≡ hexBytes (take i s) ++ hexDigits 2 (getD s i 0)
+pub hex-bytes-more : (s : List ℕ) (i : ℕ) → i < length s
+    → hexBytes (take (i + 1) s) ≡ hexBytes (take i s) ++ hexDigits 2 (getD s i 0)
 hex-bytes-more s i h = rw (add-one, take-suc s i 0 h, hex-bytes-append, hex-bytes-one)
 
 pub copy-step : (d s : List ℕ) (i : ℕ) → i < length d → i < length s

@@ -1,6 +1,5 @@
--- Laws of writing: pieces one after the other are their bytes joined; with room the text is the old one and the new bytes, and in any case
--- that, cut at the limit.
--- Assumes nothing.
+-- Laws of writing: pieces one after the other are their bytes joined; with room the text is the old one and the new
+-- bytes, and in any case that, cut at the limit. Assumes nothing.
 use Prim.Native.Nat.{ℕ, _+_, _≤_, _<_}
 use mathlib.Core.Path.{_≡_, refl, sym, _∙_}
 use mathlib.Core.List.{List, [], _∷_, _++_, append-assoc, append-nil}
@@ -57,20 +56,23 @@ module _ (t : Text) (b : ℕ) (sized : length (t .bytes) ≡ textLimit) where
   unfolding putByte
   byte-room l =
       let m : t .len < length (t .bytes) = omega arith in
-      rw (if-true _ _ (lt-ltb (t .len) textLimit l)) (record { size = rw length-set sized; len = refl; text = rw (add-one, take-suc-set) })
+      rw (if-true _ _ (lt-ltb (t .len) textLimit l))
+      (record { size = rw length-set sized; len = refl; text = rw (add-one, take-suc-set) })
 
   byte-full : textLimit ≤ t .len → putByte t b ≡ t
   unfolding putByte
   byte-full l = if-false _ _ (le-ltb (t .len) textLimit l)
 
-pub put-room : (t : Text) (xs : List ℕ) → length (t .bytes) ≡ textLimit → t .len + length xs ≤ textLimit → Put t (put t xs) xs
+pub put-room : (t : Text) (xs : List ℕ) → length (t .bytes) ≡ textLimit → t .len + length xs ≤ textLimit
+    → Put t (put t xs) xs
 put-room t [] h l = rw put-nil (record { size = h; len = sym (add-zero _); text = sym (append-nil _) })
 put-room t (x ∷ xs) h l =
     let p : Put t (putByte t x) (x ∷ []) = byte-room t x h (omega arith) in
     let q : Put (putByte t x) (put (putByte t x) xs) xs = put-room (putByte t x) xs (p .size) (omega arith) in
     rw put-cons (record { size = q .size; len = omega arith; text = rw (q .text, p .text, append-assoc) })
 
-pub put-text : (t : Text) (xs : List ℕ) → length (t .bytes) ≡ textLimit → textOf (put t xs) ≡ take textLimit (textOf t ++ xs)
+pub put-text : (t : Text) (xs : List ℕ) → length (t .bytes) ≡ textLimit
+    → textOf (put t xs) ≡ take textLimit (textOf t ++ xs)
 put-text t [] h =
     let l : length (textOf t) ≤ textLimit = rw length-take (omega arith) in
     rw (put-nil, append-nil) (sym (take-all _ _ l))
@@ -81,7 +83,13 @@ put-text t (x ∷ xs) h =
     rw (put-cons, put-text (putByte t x) xs (p .size), p .text, append-assoc))
     (λ l.
     let full : length (textOf t) ≡ textLimit = rw length-take (omega arith) in
-    rw (put-cons, byte-full t x h l, put-text t xs h, take-at (textOf t) xs textLimit full, take-at (textOf t) (x ∷ xs) textLimit full))
+    rw (
+      put-cons,
+      byte-full t x h l,
+      put-text t xs h,
+      take-at (textOf t) xs textLimit full,
+      take-at (textOf t) (x ∷ xs) textLimit full,
+    ))
 
 -- from the empty text: the text is what was written
 pub fresh-text : (xs : List ℕ) → length xs ≤ textLimit → textOf (put freshText xs) ≡ xs

@@ -1,14 +1,13 @@
--- A number in decimal, as document 01's lines and the JSON of a report have it: its digits as bytes, without leading zeros. And what such a
--- text says: a reader, to state that no two numbers are written alike.
--- Assumes nothing.
+-- A number in decimal, as document 01's lines and the JSON of a report have it: its digits as bytes, without leading
+-- zeros. And what such a text says: a reader, to state that no two numbers are written alike. Assumes nothing.
 use Prim.Native.Nat.{ℕ, zero, suc, _+_, _-_, _*_, _/_, _%_}
 use mathlib.Core.Path.{_≡_}
 use mathlib.Core.Bool.{Bool, true, false, _&&_}
 use mathlib.Core.List.{List, [], _∷_, _++_}
 use lib.Dec.{ltb, leb}
 
--- below ten one digit, else the digits of n / 10 and then the last one; the first number only bounds how many, and any above n serves.
--- Not by `if`: antt computes the arms of that first, and would run through the whole bound
+-- below ten one digit, else the digits of n / 10 and then the last one; the first number only bounds how many, and any
+-- above n serves. Not by `if`: antt computes the arms of that first, and would run through the whole bound
 unfoldable pub digits : ℕ → ℕ → List ℕ
 digits zero n = []
 digits (suc bound) n = elim (ltb n 10) [ true ↦ (48 + n) ∷ [] | false ↦ digits bound (n / 10) ++ ((48 + n % 10) ∷ []) ]

@@ -1,5 +1,5 @@
--- A number in lower-case hexadecimal: its k last digits, zeros in front included. A byte of a frame has two, a digest sixteen.
--- Assumes nothing.
+-- A number in lower-case hexadecimal: its k last digits, zeros in front included. A byte of a frame has two, a digest
+-- sixteen. Assumes nothing.
 use Prim.Native.Nat.{ℕ, zero, suc, _+_, _-_, _*_, _/_, _%_}
 use mathlib.Core.List.{List, [], _∷_, _++_}
 use lib.Dec.{ltb}

@@ -1,6 +1,5 @@
--- Document 01, "Pump and report": text is at most 2,048 bytes; 62 exactly when the lent buffer is shorter than the text. Bytes past the text
--- keep their values.
--- Assumes nothing.
+-- Document 01, "Pump and report": text is at most 2,048 bytes; 62 exactly when the lent buffer is shorter than the
+-- text. Bytes past the text keep their values. Assumes nothing.
 use Prim.Native.Nat.{ℕ, _+_}
 use mathlib.Core.Path.{_≡_}
 use mathlib.Core.List.{List, [], _∷_, _++_}

@@ -1,4 +1,5 @@
-// The byte writer: a text of at most 2,048 bytes by value, to which pieces, decimals and hex digits are added. What does not fit is dropped.
+// The byte writer: a text of at most 2,048 bytes by value, to which pieces, decimals and hex digits are added. What
+// does not fit is dropped.
 ghost use mathlib.Core.Path.{_≡_};
 ghost use mathlib.Core.List.{[], _∷_};
 ghost use Prim.Native.Nat.{_<_};

@@ -1,6 +1,6 @@
--- What the trace form prints beside the runner's lines, for a comparison of whole sessions: after `send` the message whole, and after every
--- record all six counters, pending, next local tick, playing, `wants_local`, input digest and outcome. A truth is 1 or 0, and no outcome is `0 - 0`.
--- Assumes nothing.
+-- What the trace form prints beside the runner's lines, for a comparison of whole sessions: after `send` the message
+-- whole, and after every record all six counters, pending, next local tick, playing, `wants_local`, input digest and
+-- outcome. A truth is 1 or 0, and no outcome is `0 - 0`. Assumes nothing.
 use Prim.Native.Nat.{ℕ, _*_}
 use mathlib.Core.Bool.{Bool}
 use mathlib.Core.List.{List, [], _∷_, _++_}
@@ -28,11 +28,15 @@ spaced n = join (ascii " " ∷ decimal n ∷ [])
 -- ---- a message
 
 unfoldable pub helloWhole : HelloBody → List ℕ
-helloWhole b = join (spaced (b .agreement) ∷ spaced (b .content) ∷ spaced (b .rules) ∷ spaced (b .seed) ∷ spaced (b .count) ∷ spaced (b .width) ∷ spaced (b .delay) ∷ spaced (b .period) ∷ [])
+helloWhole b =
+    join (spaced (b .agreement) ∷ spaced (b .content) ∷ spaced (b .rules) ∷ spaced (b .seed) ∷ spaced (b .count)
+    ∷ spaced (b .width) ∷ spaced (b .delay) ∷ spaced (b .period) ∷ [])
 
 -- the run is its frames: the bytes past them are none of the message's
 unfoldable pub inputsWhole : InputsBody → List ℕ → List ℕ
-inputsWhole b run = join (spaced (b .first) ∷ spaced (b .count) ∷ spaced (b .width) ∷ ascii " " ∷ hexBytes (take (b .count * b .width) run) ∷ [])
+inputsWhole b run =
+    join (spaced (b .first) ∷ spaced (b .count) ∷ spaced (b .width) ∷ ascii " "
+    ∷ hexBytes (take (b .count * b .width) run) ∷ [])
 
 unfoldable pub bodyWhole : Body → List ℕ → List ℕ
 bodyWhole (Hello b) run = helloWhole b
@@ -62,10 +66,10 @@ standingText (Over o) = outcomeText o
 
 unfoldable pub countersText : SessionStats → List ℕ
 countersText s =
-    join (decimal (s .«datagrams_refused») ∷ spaced (s .«frames_repeated») ∷ spaced (s .«frames_contradicted») ∷ spaced (s .«frames_out_of_window»)
-    ∷ spaced (s .«digests_contradicted») ∷ spaced (s .«stall_pumps») ∷ [])
+    join (decimal (s .«datagrams_refused») ∷ spaced (s .«frames_repeated») ∷ spaced (s .«frames_contradicted»)
+    ∷ spaced (s .«frames_out_of_window») ∷ spaced (s .«digests_contradicted») ∷ spaced (s .«stall_pumps») ∷ [])
 
 unfoldable pub stateLine : SessionStats → (pending next : ℕ) → (playing wants : Bool) → (digest : ℕ) → Standing → List ℕ
 stateLine stats pending next playing wants digest outcome =
-    join (ascii "= " ∷ countersText stats ∷ spaced pending ∷ spaced next ∷ ascii " " ∷ flagText playing ∷ ascii " " ∷ flagText wants ∷ spaced digest
-    ∷ ascii " " ∷ standingText outcome ∷ ascii "\n" ∷ [])
+    join (ascii "= " ∷ countersText stats ∷ spaced pending ∷ spaced next ∷ ascii " " ∷ flagText playing ∷ ascii " "
+    ∷ flagText wants ∷ spaced digest ∷ ascii " " ∷ standingText outcome ∷ ascii "\n" ∷ [])

@@ -1,10 +1,12 @@
-// The trace form of a script's lines: every message whole, and after each record what the session shows. Programs are held against each other by it.
+// The trace form of a script's lines: every message whole, and after each record what the session shows. Programs are
+// held against each other by it.
 ghost use Prim.Native.Nat.{_*_, _≤_, min};
 ghost use mathlib.Core.Path.{_≡_};
 ghost use lib.ListN.{length};
 ghost use Rattle.text.specs.Text.{put};
 ghost use Rattle.lines.specs.Lines.{Says};
-ghost use Rattle.trace_text.specs.Trace.{spaced, helloWhole, inputsWhole, bodyWhole, messageWhole, sentLine, sendLines, standingText, countersText, stateLine};
+ghost use Rattle.trace_text.specs.Trace.{spaced, helloWhole, inputsWhole, bodyWhole, messageWhole};
+ghost use Rattle.trace_text.specs.Trace.{sentLine, sendLines, standingText, countersText, stateLine};
 use lines::flag;
 use lines::outcome;
 use logic::least;

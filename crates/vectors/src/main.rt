@@ -1,5 +1,5 @@
-// FNV-1a 64's published test vectors: each text in C notation and the hash of its bytes, as the published list has them. The file
-// stdout beside src/ is that list, not what this program once printed.
+// FNV-1a 64's published test vectors: each text in C notation and the hash of its bytes, as the published list has
+// them. The file stdout beside src/ is that list, not what this program once printed.
 use hash::StateHash;
 
 fn show(text: &[u8], bytes: &[u8]) {

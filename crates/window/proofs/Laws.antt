@@ -1,6 +1,5 @@
--- What later layers use of the window: a frame that was just written is held and is those bytes, and what is held elsewhere, or for another
--- seat, is as it was.
--- Assumes nothing.
+-- What later layers use of the window: a frame that was just written is held and is those bytes, and what is held
+-- elsewhere, or for another seat, is as it was. Assumes nothing.
 use Prim.Native.Nat.{ℕ, _+_, _*_, _%_, _<_, _≤_}
 use mathlib.Core.Path.{_≡_, refl, ap, sym, _∙_}
 use mathlib.Core.Logic.{_≢_, _⊎_, inl, inr}
@@ -8,7 +7,8 @@ use mathlib.Core.List.{List}
 use mathlib.Core.Bool.{true, false, or-true, or-false, true≢false}
 use native.Mathlib.Omega.{arith}
 use native.Mathlib.Decide.{decLt}
-use lib.ListN.{length, getD, replicate, length-set, length-replicate, length-take, length-drop, getD-replicate, List·getD-eq-default}
+use lib.ListN.{length, getD, replicate, length-set, length-replicate}
+use lib.ListN.{length-take, length-drop, getD-replicate, List·getD-eq-default}
 use lib.Seq.{length-paste, getD-set-same, getD-set-other, take-length}
 use borrow.Author.Tests.{eq-eqb, ne-eqb, lt-ltb, le-leb}
 use Rattle.logic.specs.Test.{if_then_else_}
@@ -37,13 +37,15 @@ fresh-sized = record {
 }
 
 getD-replicate-same : (n i a : ℕ) → getD (replicate n a) i a ≡ a
-getD-replicate-same n i a = caseLt i n (λ l. getD-replicate n i a a l) (λ l. List·getD-eq-default (replicate n a) a (rw length-replicate l))
+getD-replicate-same n i a =
+    caseLt i n (λ l. getD-replicate n i a a l) (λ l. List·getD-eq-default (replicate n a) a (rw length-replicate l))
 
 -- two frames of sixteen bytes are one, or lie apart
 apart : (x y : ℕ) → x ≢ y → (y * 16 + 16 ≤ x * 16) ⊎ (x * 16 + 16 ≤ y * 16)
 apart x y ne = elim (decLt x y) [ yes h ↦ inr (omega arith) | no g ↦ inl (omega arith) ]
 
-module _ (w : Window) (seat tick : ℕ) (bytes : List ℕ) (ok : Sized w) (low : seat < seats) (short : length bytes ≤ maxWidth) where
+module _ (w : Window) (seat tick : ℕ) (bytes : List ℕ) (ok : Sized w) (low : seat < seats)
+    (short : length bytes ≤ maxWidth) where
   room : frameStart seat tick + length bytes ≤ length (w .ring)
   room = rw (ok .ring) (omega arith)
 
@@ -68,19 +70,31 @@ module _ (w : Window) (seat tick : ℕ) (bytes : List ℕ) (ok : Sized w) (low :
 
   pub held-cell : (u : ℕ) → slotOf u ≢ slotOf tick → heldBy (written w seat tick bytes) u ≡ heldBy w u
   unfolding heldBy written
-  held-cell u ne = rw (getD-set-other (w .ticks) (slotOf tick) (slotOf u) tick 0 ne, getD-set-other (w .present) (slotOf tick) (slotOf u) _ 0 ne)
+  held-cell u ne =
+      rw (
+        getD-set-other (w .ticks) (slotOf tick) (slotOf u) tick 0 ne,
+        getD-set-other (w .present) (slotOf tick) (slotOf u) _ 0 ne,
+      )
 
   pub held-over : (u : ℕ) → slotOf u ≡ slotOf tick → u ≢ tick → heldBy (written w seat tick bytes) u ≡ 0
   unfolding heldBy written if_then_else_
-  held-over u e ne = rw (e, getD-set-same (w .ticks) (slotOf tick) tick 0 (rw (ok .ticks) (omega arith)), ne-eqb tick u (λ p. ne (sym p)))
+  held-over u e ne =
+      rw (
+        e,
+        getD-set-same (w .ticks) (slotOf tick) tick 0 (rw (ok .ticks) (omega arith)),
+        ne-eqb tick u (λ p. ne (sym p)),
+      )
 
   pub is-held-same : isHeld (written w seat tick bytes) seat tick ≡ true
   unfolding isHeld
-  is-held-same = rw (held-same, has-adding seats (heldBy w tick) seat seat, eq-eqb seat seat refl) (or-true (has (heldBy w tick) seat))
+  is-held-same =
+      rw (held-same, has-adding seats (heldBy w tick) seat seat, eq-eqb seat seat refl)
+      (or-true (has (heldBy w tick) seat))
 
   pub is-held-seat : (r : ℕ) → r < seats → r ≢ seat → isHeld (written w seat tick bytes) r tick ≡ isHeld w r tick
   unfolding isHeld
-  is-held-seat r l ne = rw (held-same, has-adding seats (heldBy w tick) seat r, ne-eqb r seat ne) (or-false (has (heldBy w tick) r))
+  is-held-seat r l ne =
+      rw (held-same, has-adding seats (heldBy w tick) seat r, ne-eqb r seat ne) (or-false (has (heldBy w tick) r))
 
   pub is-held-cell : (r u : ℕ) → slotOf u ≢ slotOf tick → isHeld (written w seat tick bytes) r u ≡ isHeld w r u
   unfolding isHeld
@@ -95,11 +109,14 @@ module _ (w : Window) (seat tick : ℕ) (bytes : List ℕ) (ok : Sized w) (low :
   unfolding frameOf written
   frame-same = read-pasted (w .ring) (frameStart seat tick) bytes (length bytes) room (omega arith) ∙ take-length bytes
 
-  pub frame-other : (r u n : ℕ) → r * window + slotOf u ≢ seat * window + slotOf tick → n ≤ maxWidth → frameOf (written w seat tick bytes) r u n ≡ frameOf w r u n
+  pub frame-other : (r u n : ℕ) → r * window + slotOf u ≢ seat * window + slotOf tick → n ≤ maxWidth
+      → frameOf (written w seat tick bytes) r u n ≡ frameOf w r u n
   unfolding frameOf written
   frame-other r u n ne h = elim (apart (seat * window + slotOf tick) (r * window + slotOf u) (λ p. ne (sym p))) [
-    | inl p ↦ read-before (w .ring) (frameStart seat tick) bytes (length bytes) room (omega arith) (frameStart r u) n (omega arith)
-    | inr p ↦ read-after (w .ring) (frameStart seat tick) bytes (length bytes) room (omega arith) (frameStart r u) n (omega arith)
+    | inl p ↦ read-before (w .ring) (frameStart seat tick) bytes (length bytes) room (omega arith)
+        (frameStart r u) n (omega arith)
+    | inr p ↦ read-after (w .ring) (frameStart seat tick) bytes (length bytes) room (omega arith)
+        (frameStart r u) n (omega arith)
   ]
 
 -- ---- what is held, said without lists and masks
@@ -111,7 +128,8 @@ pub record Holds (w : Window) (n seat tick : ℕ) (bytes : List ℕ) : Type 0 wh
 
 pub fresh-holds : (n seat tick : ℕ) (bytes : List ℕ) → Holds freshWindow n seat tick bytes → ⊥
 unfolding freshWindow isHeld heldBy
-fresh-holds n seat tick bytes h = true≢false (sym (h .held) ∙ rw (getD-replicate-same window (slotOf tick) 0, if-same) (has-zero seat))
+fresh-holds n seat tick bytes h =
+    true≢false (sym (h .held) ∙ rw (getD-replicate-same window (slotOf tick) 0, if-same) (has-zero seat))
 
 -- where a frame that a written window holds comes from: it is the one just written, or was held before
 pub data Wrote (w : Window) (n seat tick : ℕ) (bytes : List ℕ) (r u : ℕ) (frame : List ℕ) : Type 0 where
@@ -119,7 +137,8 @@ pub data Wrote (w : Window) (n seat tick : ℕ) (bytes : List ℕ) (r u : ℕ) (
   older : Holds w n r u frame → Wrote w n seat tick bytes r u frame
 
 -- the cell of another seat or of another cell's tick is another
-cells-apart : (r u seat tick : ℕ) → (r ≡ seat → slotOf u ≢ slotOf tick) → r * window + slotOf u ≢ seat * window + slotOf tick
+cells-apart : (r u seat tick : ℕ) → (r ≡ seat → slotOf u ≢ slotOf tick)
+    → r * window + slotOf u ≢ seat * window + slotOf tick
 cells-apart r u seat tick n e = n (omega arith) (omega arith)
 
 pub wrote : (w : Window) (n seat tick : ℕ) (bytes : List ℕ) (r u : ℕ) (frame : List ℕ)
@@ -135,7 +154,8 @@ wrote w n seat tick bytes r u frame ok low len short l h =
     (λ d.
     older record {
       held = cc (is-held-seat w seat tick bytes ok low fits r l d);
-      frame = cc (frame-other w seat tick bytes ok low fits r u n (cells-apart r u seat tick (λ p. absurd (d p))) short);
+      frame =
+          cc (frame-other w seat tick bytes ok low fits r u n (cells-apart r u seat tick (λ p. absurd (d p))) short);
     }))
     (λ d. absurd (true≢false (sym (h .held) ∙ is-held-over w seat tick bytes ok low fits r u s d))))
     (λ d.
@@ -144,6 +164,7 @@ wrote w n seat tick bytes r u frame ok low len short l h =
       frame = cc (frame-other w seat tick bytes ok low fits r u n (cells-apart r u seat tick (λ _. d)) short);
     })
 
-pub frame-length : (w : Window) (seat tick n : ℕ) → Sized w → seat < seats → n ≤ maxWidth → length (frameOf w seat tick n) ≡ n
+pub frame-length : (w : Window) (seat tick n : ℕ) → Sized w → seat < seats → n ≤ maxWidth
+    → length (frameOf w seat tick n) ≡ n
 unfolding frameOf
 frame-length w seat tick n ok low short = rw (length-take, length-drop, ok .ring) (omega arith)

@@ -11,7 +11,10 @@ module _ (d : List ℕ) (at : ℕ) (s : List ℕ) (n : ℕ) (fits : at + n ≤ l
   -- the part that was pasted
   pub read-pasted : take n (drop at (paste d at s n)) ≡ take n s
   read-pasted =
-      rw (append-assoc (take at d) (take n s) (drop (at + n) d), drop-at (take at d) (take n s ++ drop (at + n) d) at (length-take-le at d (omega arith)))
+      rw (
+        append-assoc (take at d) (take n s) (drop (at + n) d),
+        drop-at (take at d) (take n s ++ drop (at + n) d) at (length-take-le at d (omega arith)),
+      )
       (take-at (take n s) (drop (at + n) d) n (length-take-le n s long))
 
   -- a part that ends before

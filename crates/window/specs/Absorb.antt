@@ -1,6 +1,6 @@
--- Document 01, "The window": for each frame in order: below pending, skip silently; 64 or more above pending, note 27; held and equal, raise
--- `frames_repeated`; held and different, note 28; else write. Only the last note counts.
--- Assumes nothing.
+-- Document 01, "The window": for each frame in order: below pending, skip silently; 64 or more above pending, note 27;
+-- held and equal, raise `frames_repeated`; held and different, note 28; else write. Only the last note counts. Assumes
+-- nothing.
 use Prim.Native.Nat.{ℕ, zero, suc, _+_, _*_, _-_}
 use mathlib.Core.Bool.{Bool, true, false, _&&_}
 use mathlib.Core.List.{List, [], _∷_}
@@ -32,7 +32,8 @@ abbrev pub repeats : Absorbed → Absorbed
 repeats a = record { window = a .window; repeated = raised (a .repeated); note = a .note; wrote = a .wrote }
 
 abbrev pub stores : Absorbed → ℕ → ℕ → List ℕ → Absorbed
-stores a seat tick bytes = record { window = writeFrame (a .window) seat tick bytes; repeated = a .repeated; note = a .note; wrote = true }
+stores a seat tick bytes =
+    record { window = writeFrame (a .window) seat tick bytes; repeated = a .repeated; note = a .note; wrote = true }
 
 -- ---- one frame, and a message's frames
 
@@ -41,7 +42,8 @@ absorbOne a pending seat tick bytes =
     if ltb tick pending then a
     else if leb window (tick - pending) then noted a (OutOfWindow tick pending)
     else if isHeld (a .window) seat tick
-    then (if sameBytes (frameOf (a .window) seat tick (length bytes)) bytes then repeats a else noted a (Contradiction seat tick))
+    then (if sameBytes (frameOf (a .window) seat tick (length bytes)) bytes
+    then repeats a else noted a (Contradiction seat tick))
     else stores a seat tick bytes
 
 -- frame i of a run, n bytes wide
@@ -54,8 +56,10 @@ untouched w repeated = record { window = w; repeated = repeated; note = Nothing;
 -- the first k frames, in order: frame i belongs to the first tick plus i
 unfoldable pub absorbFirst : Absorbed → (pending seat first n : ℕ) → List ℕ → ℕ → Absorbed
 absorbFirst a pending seat first n run zero = a
-absorbFirst a pending seat first n run (suc i) = absorbOne (absorbFirst a pending seat first n run i) pending seat (first + i) (frameAt run n i)
+absorbFirst a pending seat first n run (suc i) =
+    absorbOne (absorbFirst a pending seat first n run i) pending seat (first + i) (frameAt run n i)
 
 -- all of them, from no note and nothing written
 unfoldable pub absorbInputs : Window → (repeated pending seat : ℕ) → InputsBody → List ℕ → Absorbed
-absorbInputs w repeated pending seat inputs run = absorbFirst (untouched w repeated) pending seat (inputs .first) (inputs .width) run (inputs .count)
+absorbInputs w repeated pending seat inputs run =
+    absorbFirst (untouched w repeated) pending seat (inputs .first) (inputs .width) run (inputs .count)

@@ -1,7 +1,6 @@
--- Document 01, "The window": the ring is 8,192 input bytes, all zero at the start, with one tick number (2^64-1 at first) and one seat set
--- (empty) per cell. Writing a new tick to a cell empties its seat set first. The bytes that stand for a seat and tick are the bytes already held
--- if there are any, else the message's.
--- Assumes nothing.
+-- Document 01, "The window": the ring is 8,192 input bytes, all zero at the start, with one tick number (2^64-1 at
+-- first) and one seat set (empty) per cell. Writing a new tick to a cell empties its seat set first. The bytes that
+-- stand for a seat and tick are the bytes already held if there are any, else the message's. Assumes nothing.
 use Prim.Native.Nat.{ℕ, _+_, _*_}
 use mathlib.Core.Bool.{Bool}
 use mathlib.Core.List.{List}

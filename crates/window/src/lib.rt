@@ -1,5 +1,5 @@
-// The window: every seat's presses for the ticks from pending on, in one flat ring of bytes, with the tick at which each cell
-// stands and the seats that it holds.
+// The window: every seat's presses for the ticks from pending on, in one flat ring of bytes, with the tick at which
+// each cell stands and the seats that it holds.
 ghost use mathlib.Core.Path.{_≡_};
 ghost use Prim.Native.Nat.{_+_, _<_, _≤_};
 ghost use lib.ListN.{length};
@@ -111,8 +111,8 @@ impl Window {
 }
 
 impl Absorbed {
-    // One frame of a message, the body of the loop of `absorb_inputs`. Bytes that are held stand, so those of the message are
-    // compared with them; where none are held the message's own stand, and are written.
+    // One frame of a message, the body of the loop of `absorb_inputs`. Bytes that are held stand, so those of the
+    // message are compared with them; where none are held the message's own stand, and are written.
     fn absorb_one(mut self, pending: u64, seat: u8, tick: u64, bytes: &[u8]) -> Absorbed
         requires { ⌜ (seat < seats) × (length (now bytes) ≤ maxWidth) ⌝ }
         ensures { λ r. ⌜ r ≡ absorbOne self pending seat tick (now (bytes .entry)) ⌝ }
@@ -153,8 +153,8 @@ impl Absorbed {
 }
 
 impl Window {
-    // The frames of one message, in order. It asks for a message of good form, which is why `deliver::deliver` is the entry and
-    // this is not.
+    // The frames of one message, in order. It asks for a message of good form, which is why `deliver::deliver` is the
+    // entry and this is not.
     pub fn absorb_inputs(
         self,
         repeated: u64,

@@ -1,5 +1,5 @@
--- Both sides of each limit of the malformed reasons, computed from the definitions: one table under a single proof for each kind.
--- Assumes nothing.
+-- Both sides of each limit of the malformed reasons, computed from the definitions: one table under a single proof for
+-- each kind. Assumes nothing.
 use mathlib.Core.Path.{_≡_, refl}
 use mathlib.Core.List.{List, [], _∷_}
 use Prim.Native.Nat.{ℕ}
@@ -12,11 +12,21 @@ use Rattle.wire.specs.Wire.{formNo, helloForm, inputsForm, otherForm, bo
 
 -- the reason of a message with a run of so many bytes, 0 where it is good
 form : (sender session : ℕ) → Body → (run : ℕ) → ℕ
-form sender session body run = formNo (formOf (record { sender = sender; session = session; body = body }) (replicate run 0))
+form sender session body run =
+    formNo (formOf (record { sender = sender; session = session; body = body }) (replicate run 0))
 
 hello : (count width delay period : ℕ) → Body
 hello count width delay period =
-    Hello (record { agreement = 0; content = 0; rules = 0; seed = 0; count = count; width = width; delay = delay; period = period })
+    Hello (record {
+      agreement = 0;
+      content = 0;
+      rules = 0;
+      seed = 0;
+      count = count;
+      width = width;
+      delay = delay;
+      period = period;
+    })
 
 inputs : (first count width : ℕ) → Body
 inputs first count width = Inputs (record { first = first; count = count; width = width })
@@ -27,7 +37,8 @@ hellos :
     ∷ form 0 1 (hello 2 0 0 1) 0 ∷ form 0 1 (hello 2 16 0 1) 0 ∷ form 0 1 (hello 2 17 0 1) 0
     ∷ form 0 1 (hello 2 1 63 1) 0 ∷ form 0 1 (hello 2 1 64 1) 0
     ∷ form 0 1 (hello 2 1 0 0) 0 ∷ form 0 1 (hello 2 1 0 255) 0
-    ∷ form 8 0 (hello 1 0 64 0) 0 ∷ form 7 0 (hello 1 0 64 0) 0 ∷ form 7 1 (hello 1 0 64 0) 0 ∷ form 7 1 (hello 2 0 64 0) 0 ∷ form 7 1 (hello 2 1 64 0) 0
+    ∷ form 8 0 (hello 1 0 64 0) 0 ∷ form 7 0 (hello 1 0 64 0) 0 ∷ form 7 1 (hello 1 0 64 0) 0
+    ∷ form 7 1 (hello 2 0 64 0) 0 ∷ form 7 1 (hello 2 1 64 0) 0
     ∷ []
     ≡ 0 ∷ 1 ∷ 2
     ∷ 3 ∷ 0 ∷ 3
@@ -45,7 +56,8 @@ of-inputs :
     ∷ form 0 1 (inputs 0 0 1) 0 ∷ form 0 1 (inputs 0 8 1) 8 ∷ form 0 1 (inputs 0 9 1) 9
     ∷ form 0 1 (inputs 0 8 16) 127 ∷ form 0 1 (inputs 0 8 16) 128 ∷ form 0 1 (inputs 0 8 16) 129
     ∷ form 0 1 (inputs 18446744073709551607 8 1) 8 ∷ form 0 1 (inputs 18446744073709551608 8 1) 8
-    ∷ form 0 1 (inputs 18446744073709551615 9 17) 1 ∷ form 0 1 (inputs 18446744073709551615 9 16) 1 ∷ form 0 1 (inputs 18446744073709551615 8 16) 1
+    ∷ form 0 1 (inputs 18446744073709551615 9 17) 1 ∷ form 0 1 (inputs 18446744073709551615 9 16) 1
+    ∷ form 0 1 (inputs 18446744073709551615 8 16) 1
     ∷ []
     ≡ 1 ∷ 2
     ∷ 4 ∷ 0 ∷ 0 ∷ 4
@@ -61,7 +73,8 @@ of-inputs = refl
 others :
     form 0 1 (Digest (record { tick = 0; state = 0; input = 0 })) 5 ∷ form 0 1 (Bye (record { tick = 0 })) 5
     ∷ form 0 1 (Other 0) 0 ∷ form 0 1 (Other 1) 0 ∷ form 0 1 (Other 4) 0 ∷ form 0 1 (Other 5) 0
-    ∷ form 8 0 (Other 5) 0 ∷ form 0 0 (Other 5) 0 ∷ form 8 0 (Bye (record { tick = 0 })) 0 ∷ form 7 0 (Digest (record { tick = 0; state = 0; input = 0 })) 0
+    ∷ form 8 0 (Other 5) 0 ∷ form 0 0 (Other 5) 0 ∷ form 8 0 (Bye (record { tick = 0 })) 0
+    ∷ form 7 0 (Digest (record { tick = 0; state = 0; input = 0 })) 0
     ∷ []
     ≡ 0 ∷ 0
     ∷ 10 ∷ 0 ∷ 0 ∷ 10

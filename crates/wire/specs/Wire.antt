@@ -1,5 +1,5 @@
--- Document 01, "Message records from wire.rs", and the malformed reasons: lowest number wins, only those that fit the kind.
--- Assumes nothing.
+-- Document 01, "Message records from wire.rs", and the malformed reasons: lowest number wins, only those that fit the
+-- kind. Assumes nothing.
 use Prim.Native.Nat.{ℕ, _+_, _*_}
 use mathlib.Core.Bool.{Bool, not}
 use mathlib.Core.List.{List}
@@ -17,7 +17,9 @@ use Rattle.wire.specs.declared.Body.{Body}
 use Rattle.wire.specs.declared.Body.the-variants.{Hello, Inputs, Digest, Bye, Other}
 use Rattle.wire.specs.declared.Message.{Message}
 use Rattle.wire.specs.declared.WireError.{WireError}
-use Rattle.wire.specs.declared.WireError.the-variants.{SenderPastCeiling, SessionZero, PeerCount, InputBytes, InputDelay, DigestPeriodZero, FrameCount, RunLength, TickOverflow, UnknownKind}
+use Rattle.wire.specs.declared.WireError.the-variants.{SenderPastCeiling, SessionZero, PeerCount}
+use Rattle.wire.specs.declared.WireError.the-variants.{InputBytes, InputDelay, DigestPeriodZero}
+use Rattle.wire.specs.declared.WireError.the-variants.{FrameCount, RunLength, TickOverflow, UnknownKind}
 use Rattle.wire.specs.declared.Form.{Form}
 use Rattle.wire.specs.declared.Form.the-variants.{Good, Malformed}
 
@@ -52,7 +54,8 @@ helloForm h =
     else if eqb (h .period) 0 then Malformed DigestPeriodZero
     else Good
 
--- Inputs, with the length of its run: 4 width, 7 frame count not 1..8, 8 run length not count times width, 9 first tick plus count above 2^64-1
+-- Inputs, with the length of its run: 4 width, 7 frame count not 1..8, 8 run length not count times width, 9 first tick
+-- plus count above 2^64-1
 unfoldable pub inputsForm : InputsBody → ℕ → Form
 inputsForm i run =
     if outside 1 maxWidth (i .width) then Malformed (InputBytes (i .width) maxWidth)

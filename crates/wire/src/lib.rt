@@ -1,5 +1,5 @@
-// The messages that players send each other, as records, and the reasons for which one is malformed. Whatever can be told from a
-// record alone is told here; what depends on the session is the session's.
+// The messages that players send each other, as records, and the reasons for which one is malformed. Whatever can be
+// told from a record alone is told here; what depends on the session is the session's.
 ghost use mathlib.Core.Path.{_≡_};
 ghost use Rattle.wire.specs.Wire.{helloForm, inputsForm, otherForm, formOf, reasonNo};
 use logic::is_outside;
@@ -20,8 +20,8 @@ pub struct HelloBody {
     pub period: u8,
 }
 
-// My presses for `count` ticks in a row, of `width` bytes each, in a run of bytes that stands beside the record: frame i belongs to
-// tick first + i.
+// My presses for `count` ticks in a row, of `width` bytes each, in a run of bytes that stands beside the record: frame
+// i belongs to tick first + i.
 pub struct InputsBody {
     pub first: u64,
     pub count: u8,
@@ -175,7 +175,8 @@ fn other_form(kind: u8) -> Form
 }
 
 impl Message {
-    // Whether the message, with its run beside it, has the form of its kind; the reason with the lowest number where it has not.
+    // Whether the message, with its run beside it, has the form of its kind; the reason with the lowest number where it
+    // has not.
     pub fn form(self, run: &[u8]) -> Form
         ensures { λ r. ⌜ r ≡ formOf self (now (run .entry)) ⌝ }
     {

@@ -23,9 +23,14 @@ returns-2 c = c .accepted .ensures ∙ sym (found (c .before .before .before) _ 
 returns-3 : tie.Need-returns-3
 unfolding hearBy
 returns-3 c =
-    rw (found (c .before .before .before .before) _ (c .before .before .enum-told3 .given .1), c .judge .ensures, c .before .with-remote .ensures)
+    rw (
+      found (c .before .before .before .before) _ (c .before .before .enum-told3 .given .1),
+      c .judge .ensures,
+      c .before .with-remote .ensures,
+    )
 
 pub absorb-digest-spec : {M : Type 1} → statement M
 absorb-digest-spec =
     tie.close
-    (tie.spec (search needs) (search needs) (search needs) (search needs) (search needs) (search needs) (search needs) (search needs) returns returns-2 returns-3)
+    (tie.spec (search needs) (search needs) (search needs) (search needs) (search needs) (search needs) (search needs)
+    (search needs) returns returns-2 returns-3)

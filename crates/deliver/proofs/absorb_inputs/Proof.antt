@@ -20,7 +20,8 @@ unfolding absorb framesTaken repeatedOf
 returns-2 c =
     let at = c .before .before .before in
     let s = at .before .before .before .before .args .s in
-    c .answer-note .ensures ∙ sym (if-true _ _ (eq-eqb _ _ (at .before .if1 .left)) ∙ ap (framesTaken s) (sym (at .absorb-inputs .ensures)))
+    c .answer-note .ensures
+    ∙ sym (if-true _ _ (eq-eqb _ _ (at .before .if1 .left)) ∙ ap (framesTaken s) (sym (at .absorb-inputs .ensures)))
 
 pub absorb-inputs-spec : {M : Type 1} → statement M
 absorb-inputs-spec = tie.close (tie.spec (search needs) returns absorb-inputs-requires (search needs) returns-2)

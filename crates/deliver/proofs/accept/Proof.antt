@@ -17,11 +17,13 @@ returns c = rw (c .before .before .body .given .1) (c .accept-hello .ensures)
 
 returns-2 : tie.Need-returns-2
 unfolding accept
-returns-2 c = rw (c .before .before .before .body2 .given .1, c .absorb-inputs .ensures, c .before .mark-playing .ensures)
+returns-2 c =
+    rw (c .before .before .before .body2 .given .1, c .absorb-inputs .ensures, c .before .mark-playing .ensures)
 
 returns-3 : tie.Need-returns-3
 unfolding accept
-returns-3 c = rw (c .before .before .before .body3 .given .1, c .absorb-digest .ensures, c .before .mark-playing2 .ensures)
+returns-3 c =
+    rw (c .before .before .before .body3 .given .1, c .absorb-digest .ensures, c .before .mark-playing2 .ensures)
 
 returns-4 : tie.Need-returns-4
 unfolding accept
@@ -34,5 +36,6 @@ returns-5 c = rw (c .before .before .body5 .given .1) (c .refuse .ensures)
 pub accept-spec : {M : Type 1} → statement M
 accept-spec =
     tie.close
-    (tie.spec (search needs) (search needs) (search needs) (search needs) absorb-inputs-requires (search needs) (search needs) (search needs) (search needs)
-    (search needs) (search needs) (search needs) returns returns-2 returns-3 returns-4 returns-5)
+    (tie.spec (search needs) (search needs) (search needs) (search needs) absorb-inputs-requires (search needs)
+    (search needs) (search needs) (search needs) (search needs) (search needs) (search needs) returns returns-2
+    returns-3 returns-4 returns-5)

@@ -8,7 +8,8 @@ use Rattle.deliver.proofs.accept_hello.Tie as tie
 
 returns : tie.Need-returns
 unfolding acceptHello if_then_else_
-returns c = rw (← c .before .before .before .agreement .ensures, ne-eqb _ _ (c .before .if1 .taken)) (c .refuse .ensures)
+returns c =
+    rw (← c .before .before .before .agreement .ensures, ne-eqb _ _ (c .before .if1 .taken)) (c .refuse .ensures)
 
 returns-2 : tie.Need-returns-2
 unfolding acceptHello if_then_else_

@@ -19,4 +19,5 @@ returns-3 c = rw (c .before .before .before .note2 .given .1, c .note-answer2 .e
 pub answer-note-spec : {M : Type 1} → statement M
 answer-note-spec =
     tie.close
-    (tie.spec (search needs) (search needs) (search needs) (search needs) (search needs) (search needs) (search needs) (search needs) returns returns-2 returns-3)
+    (tie.spec (search needs) (search needs) (search needs) (search needs) (search needs) (search needs) (search needs)
+    (search needs) returns returns-2 returns-3)

@@ -26,7 +26,8 @@ header : (c : tie.Else2) →
     let a = c .before .before .before .before .before .args in
     fromHeader (a .s) (a .source) (a .message) (now (a .run))
     ≡ if eqb (a .message .sender) (a .s .params .local) then refuse (a .s) FromSelf
-    else if not (has (rosterOf (a .s .params)) (a .message .sender)) then refuse (a .s) (NotInRoster (a .message .sender))
+    else if not (has (rosterOf (a .s .params)) (a .message .sender))
+    then refuse (a .s) (NotInRoster (a .message .sender))
     else accept (a .s) (a .message .sender) (a .message .body) (now (a .run))
 unfolding fromHeader
 header c = if-false _ _ (ap not (eq-eqb _ _ (c .before .if1 .left))) ∙ if-false _ _ (ap not (eq-eqb _ _ (c .if2 .left)))
@@ -44,7 +45,8 @@ returns-2 : tie.Need-returns-2
 unfolding fromHeader
 returns-2 c =
     c .refuse2 .ensures
-    ∙ sym (if-false _ _ (ap not (eq-eqb _ _ (c .before .before .if1 .left))) ∙ if-true _ _ (ap not (ne-eqb _ _ (c .before .if2 .taken))))
+    ∙ sym (if-false _ _ (ap not (eq-eqb _ _ (c .before .before .if1 .left)))
+    ∙ if-true _ _ (ap not (ne-eqb _ _ (c .before .if2 .taken))))
 
 returns-3 : tie.Need-returns-3
 returns-3 c =
@@ -57,7 +59,8 @@ returns-4 c =
     c .refuse4 .ensures
     ∙ sym
     (header (three .before .before) ∙ if-false _ _ (ne-eqb _ _ (three .if3 .left))
-    ∙ if-true _ _ (ap not (in-roster (c .before .before) ∙ not-true (c .before .before .contains .result) (c .before .if4 .taken))))
+    ∙ if-true _ _ (ap not
+    (in-roster (c .before .before) ∙ not-true (c .before .before .contains .result) (c .before .if4 .taken))))
 
 returns-5 : tie.Need-returns-5
 returns-5 c =
@@ -65,9 +68,11 @@ returns-5 c =
     c .accept .ensures
     ∙ sym
     (header (three .before .before) ∙ if-false _ _ (ne-eqb _ _ (three .if3 .left))
-    ∙ if-false _ _ (ap not (in-roster (c .before .before) ∙ not-false (c .before .before .contains .result) (c .before .if4 .left))))
+    ∙ if-false _ _ (ap not
+    (in-roster (c .before .before) ∙ not-false (c .before .before .contains .result) (c .before .if4 .left))))
 
 pub from-header-spec : {M : Type 1} → statement M
 from-header-spec =
     tie.close
-    (tie.spec (search needs) returns (search needs) returns-2 (search needs) returns-3 (search needs) (search needs) (search needs) returns-4 accept-requires returns-5)
+    (tie.spec (search needs) returns (search needs) returns-2 (search needs) returns-3 (search needs) (search needs)
+    (search needs) returns-4 accept-requires returns-5)

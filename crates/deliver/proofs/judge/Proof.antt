@@ -8,7 +8,8 @@ use Rattle.deliver.specs.Deliver.{judged}
 use Rattle.deliver.proofs.judge.Statement.{statement}
 use Rattle.deliver.proofs.judge.Tie as tie
 
-tested : (c : tie.After-parted) → let a = c .before .before .args in parted (a .s .prints) (remotesOf (a .s .params)) (a .tick) ≡ c .parted .result
+tested : (c : tie.After-parted) → let a = c .before .before .args in
+    parted (a .s .prints) (remotesOf (a .s .params)) (a .tick) ≡ c .parted .result
 tested c = rw (← c .before .remotes .ensures) (sym (c .parted .ensures))
 
 returns : tie.Need-returns

@@ -14,13 +14,20 @@ returns-2 : tie.Need-returns-2
 unfolding differs
 returns-2 c =
     let one = c .before .before in
-    rw (sym (one .before .contains .ensures) ∙ not-false _ (one .if1 .left), sym (c .before .contains2 .ensures) ∙ not-true _ (c .if2 .taken))
+    rw (
+      sym (one .before .contains .ensures) ∙ not-false _ (one .if1 .left),
+      sym (c .before .contains2 .ensures) ∙ not-true _ (c .if2 .taken),
+    )
 
 returns-3 : tie.Need-returns-3
 unfolding differs
 returns-3 c =
     let one = c .before .before in
-    rw (sym (one .before .contains .ensures) ∙ not-false _ (one .if1 .left), sym (c .before .contains2 .ensures) ∙ not-false _ (c .if2 .left))
+    rw (
+      sym (one .before .contains .ensures) ∙ not-false _ (one .if1 .left),
+      sym (c .before .contains2 .ensures) ∙ not-false _ (c .if2 .left),
+    )
 
 pub differs-spec : {M : Type 1} → statement M
-differs-spec = tie.close (tie.spec (search needs) returns (search needs) returns-2 (search needs) (search needs) returns-3)
+differs-spec =
+    tie.close (tie.spec (search needs) returns (search needs) returns-2 (search needs) (search needs) returns-3)

@@ -9,7 +9,15 @@ returns : tie.Need-returns
 unfolding digestText
 returns c =
     let hex = c .before .before in
-    rw (put-join, c .piece3 .ensures, hex .hex16 .ensures, hex .before .piece2 .ensures, hex .before .before .before .piece .ensures)
+    rw (
+      put-join,
+      c .piece3 .ensures,
+      hex .hex16 .ensures,
+      hex .before .piece2 .ensures,
+      hex .before .before .before .piece .ensures,
+    )
 
 pub digest-spec : {M : Type 1} → statement M
-digest-spec = tie.close (tie.spec (search needs) (search needs) (search needs) (search needs) (search needs) (search needs) returns)
+digest-spec =
+    tie.close
+    (tie.spec (search needs) (search needs) (search needs) (search needs) (search needs) (search needs) returns)

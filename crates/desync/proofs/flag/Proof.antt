@@ -13,4 +13,5 @@ unfolding flagText
 returns-2 c = rw (c .before .before .if1 .left, c .piece3 .ensures, c .before .before .before .piece .ensures)
 
 pub flag-spec : {M : Type 1} → statement M
-flag-spec = tie.close (tie.spec (search needs) (search needs) (search needs) returns (search needs) (search needs) returns-2)
+flag-spec =
+    tie.close (tie.spec (search needs) (search needs) (search needs) returns (search needs) (search needs) returns-2)

@@ -30,8 +30,10 @@ loop-again c =
     let f = p .before in
     let i = f .before .before .loop .inv in (
       ⊎-elim
-          (λ w. rw (w .2, w .1 .ensures, i .0) (built-with seats _ _ (rw (← f .heard-from .ensures) (sym (h .is-held .ensures) ∙ w .0 .taken))))
-          (λ w. rw (w .1, i .0) (built-skip seats _ _ (rw (← f .heard-from .ensures) (sym (h .is-held .ensures) ∙ w .0 .left))))
+          (λ w. rw (w .2, w .1 .ensures, i .0)
+          (built-with seats _ _ (rw (← f .heard-from .ensures) (sym (h .is-held .ensures) ∙ w .0 .taken))))
+          (λ w. rw (w .1, i .0)
+          (built-skip seats _ _ (rw (← f .heard-from .ensures) (sym (h .is-held .ensures) ∙ w .0 .left))))
           (c .if1 .came),
       filled-more (i .1) (omega arith) (rw (p .print-in .ensures, f .heard-from .ensures)),
       filled-more (i .2) (omega arith) (rw (p .print-in .ensures, f .heard-from .ensures)),
@@ -42,7 +44,16 @@ unfolding heardAll
 returns c =
     let all : c .before .before .loop .seat ≡ seats = omega arith in
     let i = c .before .before .loop .inv in
-    rw (c .bits .ensures, rw all at (i .0) ∙ built-all _ _, filled-all (i .1) (omega arith), filled-all (i .2) (omega arith))
+    rw (
+      c .bits .ensures,
+      rw all at (i .0) ∙ built-all _ _,
+      filled-all (i .1) (omega arith),
+      filled-all (i .2) (omega arith),
+    )
 
 pub heard-all-spec : {M : Type 1} → statement M
-heard-all-spec = tie.close (tie.spec Inv-loop μ-loop loop-holds (search needs) (search needs) (search needs) (search needs) (search needs) (search needs) (search needs) (search needs) (search needs) (search needs) (search needs) (search needs) loop-again (search needs) returns)
+heard-all-spec =
+    tie.close
+    (tie.spec Inv-loop μ-loop loop-holds (search needs) (search needs) (search needs) (search needs) (search needs)
+    (search needs) (search needs) (search needs) (search needs) (search needs) (search needs) (search needs) loop-again
+    (search needs) returns)

@@ -20,4 +20,7 @@ returns-2 c =
     rw (named .before .enum-told .given .1) (rw (c .piece2 .ensures, named .piece .ensures), omega arith)
 
 pub last-tick-spec : {M : Type 1} → statement M
-last-tick-spec = tie.close (tie.spec (search needs) (search needs) (search needs) (search needs) (search needs) (search needs) returns returns-2)
+last-tick-spec =
+    tie.close
+    (tie.spec (search needs) (search needs) (search needs) (search needs) (search needs) (search needs) returns
+    returns-2)

@@ -21,4 +21,6 @@ returns c =
     )
 
 pub report-at-spec : {M : Type 1} → statement M
-report-at-spec = tie.close (tie.spec (search needs) (search needs) (search needs) (search needs) (search needs) (search needs) returns)
+report-at-spec =
+    tie.close
+    (tie.spec (search needs) (search needs) (search needs) (search needs) (search needs) (search needs) returns)

@@ -17,4 +17,7 @@ unfolding reportFor
 returns-3 c = rw (c .before .before .answer .given .1) (c .report-at .ensures)
 
 pub report-for-spec : {M : Type 1} → statement M
-report-for-spec = tie.close (tie.spec (search needs) (search needs) (search needs) (search needs) (search needs) (search needs) returns returns-2 returns-3)
+report-for-spec =
+    tie.close
+    (tie.spec (search needs) (search needs) (search needs) (search needs) (search needs) (search needs) returns
+    returns-2 returns-3)

@@ -14,7 +14,14 @@ returns-2 : tie.Need-returns-2
 unfolding seatDigest if_then_else_
 returns-2 c =
     let named = c .before .before in
-    rw (sym (named .before .before .contains .ensures) ∙ named .before .if1 .left, c .piece2 .ensures, named .piece .ensures)
+    rw (
+      sym (named .before .before .contains .ensures) ∙ named .before .if1 .left,
+      c .piece2 .ensures,
+      named .piece .ensures,
+    )
 
 pub seat-digest-spec : {M : Type 1} → statement M
-seat-digest-spec = tie.close (tie.spec (search needs) (search needs) (search needs) (search needs) returns (search needs) (search needs) (search needs) returns-2)
+seat-digest-spec =
+    tie.close
+    (tie.spec (search needs) (search needs) (search needs) (search needs) returns (search needs) (search needs)
+    (search needs) returns-2)

@@ -23,7 +23,8 @@ loop-again c =
     let i = c .before .before .before .loop .inv .1 in (
       omega arith,
       ⊎-elim
-          (λ w. rw (w .3, w .4, w .2 .ensures, w .1 .ensures) (listed-in i (sym (c .before .contains .ensures) ∙ w .0 .taken)))
+          (λ w. rw (w .3, w .4, w .2 .ensures, w .1 .ensures)
+          (listed-in i (sym (c .before .contains .ensures) ∙ w .0 .taken)))
           (λ w. rw (w .1, w .2) (listed-out i (sym (c .before .contains .ensures) ∙ w .0 .left)))
           (c .if1 .came),
     )
@@ -34,4 +35,7 @@ returns c =
     rw all at (c .before .loop .inv .1 .written)
 
 pub seat-list-spec : {M : Type 1} → statement M
-seat-list-spec = tie.close (tie.spec Inv-loop μ-loop loop-holds (search needs) (search needs) (search needs) (search needs) (search needs) (search needs) (search needs) loop-again returns)
+seat-list-spec =
+    tie.close
+    (tie.spec Inv-loop μ-loop loop-holds (search needs) (search needs) (search needs) (search needs) (search needs)
+    (search needs) (search needs) loop-again returns)

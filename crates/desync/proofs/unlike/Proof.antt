@@ -11,7 +11,8 @@ use Rattle.desync.proofs.unlike.Statement.{statement}
 use Rattle.desync.proofs.unlike.Tie as tie
 
 abbrev Inv-loop : tie.InvT-loop
-Inv-loop asked there numbers own set₀ seat₀ set seat = (seat ≤ seats) × (set .0 ≡ built seats (differs (asked .0) (there .0) numbers own) seat)
+Inv-loop asked there numbers own set₀ seat₀ set seat =
+    (seat ≤ seats) × (set .0 ≡ built seats (differs (asked .0) (there .0) numbers own) seat)
 
 abbrev μ-loop : tie.MeasureT-loop
 μ-loop asked there numbers own set₀ seat₀ set seat = seats - seat
@@ -35,4 +36,6 @@ returns c =
     rw all at (c .before .loop .inv .1) ∙ built-all _ _
 
 pub unlike-spec : {M : Type 1} → statement M
-unlike-spec = tie.close (tie.spec Inv-loop μ-loop loop-holds (search needs) (search needs) (search needs) (search needs) loop-again returns)
+unlike-spec =
+    tie.close
+    (tie.spec Inv-loop μ-loop loop-holds (search needs) (search needs) (search needs) (search needs) loop-again returns)

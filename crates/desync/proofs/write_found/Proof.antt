@@ -22,7 +22,11 @@ returns-3 c =
     let copy = c .before .before .before in
     let json = copy .before .before .json .ensures in
     let copied = rw (ap textOf (json .0) ∙ fresh-text _ (omega (arith, json .1))) at (copy .copy-out .ensures) in
-    rw (copy .before .before .before .enum-told3 .given .1) (record { answered = c .written .ensures ∙ ap writtenOf (copied .answered); lent = copied .lent })
+    rw (copy .before .before .before .enum-told3 .given .1)
+    (record { answered = c .written .ensures ∙ ap writtenOf (copied .answered); lent = copied .lent })
 
 pub write-found-spec : {M : Type 1} → statement M
-write-found-spec = tie.close (tie.spec (search needs) (search needs) (search needs) (search needs) (search needs) (search needs) returns returns-2 (search needs) returns-3)
+write-found-spec =
+    tie.close
+    (tie.spec (search needs) (search needs) (search needs) (search needs) (search needs) (search needs) returns
+    returns-2 (search needs) returns-3)

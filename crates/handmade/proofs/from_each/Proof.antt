@@ -17,10 +17,12 @@ abbrev μ-loop : tie.MeasureT-loop
 μ-loop s script at₀ size₀ at size = length script - at
 
 -- the record stands within the script
-room : (c : tie.In-loop Inv-loop μ-loop) → c .before .loop .at + c .before .loop .size ≤ length (now (c .before .before .before .before .args .script))
+room : (c : tie.In-loop Inv-loop μ-loop)
+    → c .before .loop .at + c .before .loop .size ≤ length (now (c .before .before .before .before .args .script))
 room c =
     let at = c .before .loop in
-    let more : 0 < recordSize (drop (at .at) (now (c .before .before .before .before .args .script))) = rw (← at .inv .1) (c .loop-test .taken) in
+    let more : 0 < recordSize (drop (at .at) (now (c .before .before .before .before .args .script))) =
+    rw (← at .inv .1) (c .loop-test .taken) in
     let fits = rw length-drop at (whole-before _ 0 more .2) in
     omega (arith, fits, at .inv .0, at .inv .1)
 
@@ -60,5 +62,6 @@ returns c = tt
 pub from-each-spec : {M : Type 1} → statement M
 from-each-spec =
     tie.close
-    (tie.spec Inv-loop μ-loop (λ c κs. search needs) loop-holds sub-run-all part-run-all-start part-run-all-end (λ c κs. search needs) add-at
-    sub-record-size part-record-size-start part-record-size-end (λ c κs. search needs) loop-less loop-again returns)
+    (tie.spec Inv-loop μ-loop (λ c κs. search needs) loop-holds sub-run-all part-run-all-start part-run-all-end
+    (λ c κs. search needs) add-at sub-record-size part-record-size-start part-record-size-end (λ c κs. search needs)
+    loop-less loop-again returns)

@@ -1,5 +1,5 @@
--- `hash::wrapping_mul` meets its contract: each product of two halves fits, and together they are the product modulo 2^64.
--- Assumes nothing.
+-- `hash::wrapping_mul` meets its contract: each product of two halves fits, and together they are the product modulo
+-- 2^64. Assumes nothing.
 use mathlib.Core.Path.{_∙_}
 use Prim.Native.Nat.{_^_}
 use borrow.Author.Needs.{needs}
@@ -19,7 +19,8 @@ mul-wrapping-add-u64-3 c = record { fits = mul-lt-pow 32 (search needs) (search 
 
 returns : tie.Need-returns
 returns c =
-    c .wrapping-add-u642 .ensures ∙ rw (c .before .wrapping-add-u64 .ensures) (halves (2 ^ 32) (c .before .before .args .a) (c .before .before .args .b))
+    c .wrapping-add-u642 .ensures ∙ rw (c .before .wrapping-add-u64 .ensures)
+    (halves (2 ^ 32) (c .before .before .args .a) (c .before .before .args .b))
 
 pub wrapping-mul-spec : {M : Type 1} → statement M
 wrapping-mul-spec =

@@ -11,8 +11,10 @@ use Rattle.lines.proofs.accepted.Tie as tie
 returns : tie.Need-returns
 unfolding acceptedText
 returns c =
-    let a = c .before .before .before .answer .given in
-    (rw (a .1, put-join, c .decimal .ensures, c .before .byte .ensures), rw (a .1, join-length) (omega (arith, decimal-20 (a .0 .0) (omega arith))))
+    let a = c .before .before .before .answer .given in (
+      rw (a .1, put-join, c .decimal .ensures, c .before .byte .ensures),
+      rw (a .1, join-length) (omega (arith, decimal-20 (a .0 .0) (omega arith))),
+    )
 
 returns-2 : tie.Need-returns-2
 unfolding acceptedText
@@ -33,5 +35,5 @@ returns-5 c = rw (c .enum-told4 .given .1) (sym (put-nil _), omega arith)
 pub accepted-spec : {M : Type 1} → statement M
 accepted-spec =
     tie.close
-    (tie.spec (search needs) (search needs) (search needs) (search needs) (search needs) (search needs) (search needs) returns returns-2 returns-3
-    returns-4 returns-5)
+    (tie.spec (search needs) (search needs) (search needs) (search needs) (search needs) (search needs) (search needs)
+    returns returns-2 returns-3 returns-4 returns-5)

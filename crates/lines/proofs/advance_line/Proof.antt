@@ -11,7 +11,9 @@ returns c = rw (c .before .before .answer .given .1) (c .step-line .ensures)
 
 returns-2 : tie.Need-returns-2
 unfolding advanceLine
-returns-2 c = rw (c .before .before .before .enum-told .given .1) (record { wrote = rw (c .piece .ensures, c .before .before .new .ensures); fits = omega arith })
+returns-2 c =
+    rw (c .before .before .before .enum-told .given .1)
+    (record { wrote = rw (c .piece .ensures, c .before .before .new .ensures); fits = omega arith })
 
 returns-3 : tie.Need-returns-3
 unfolding advanceLine
@@ -28,5 +30,6 @@ returns-5 c = rw (c .before .before .enum-told2 .given .1) (c .numbered .ensures
 pub advance-line-spec : {M : Type 1} → statement M
 advance-line-spec =
     tie.close
-    (tie.spec (search needs) (search needs) (search needs) (search needs) (search needs) (search needs) (search needs) (search needs) (search needs)
-    (search needs) (search needs) (search needs) (search needs) returns returns-2 returns-3 returns-4 returns-5)
+    (tie.spec (search needs) (search needs) (search needs) (search needs) (search needs) (search needs) (search needs)
+    (search needs) (search needs) (search needs) (search needs) (search needs) (search needs) returns returns-2
+    returns-3 returns-4 returns-5)

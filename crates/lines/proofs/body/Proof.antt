@@ -14,20 +14,47 @@ returns c = rw (c .before .before .enum-told .given .1) (c .piece .ensures, omeg
 returns-2 : tie.Need-returns-2
 unfolding bodyText
 returns-2 c =
-    let b = c .before .before .before .before .before .before .before .body .given in
-    (rw (b .1, put-join, c .decimal2 .ensures, c .before .long .ensures, c .before .before .byte .ensures, c .before .before .before .decimal .ensures, c .before .before .before .before .piece2 .ensures), rw (b .1, join-length) (omega (arith, decimal-20 (b .0 .0 .first) (omega arith), decimal-20 (b .0 .0 .count) (omega arith))))
+    let b = c .before .before .before .before .before .before .before .body .given in (
+      rw (
+        b .1,
+        put-join,
+        c .decimal2 .ensures,
+        c .before .long .ensures,
+        c .before .before .byte .ensures,
+        c .before .before .before .decimal .ensures,
+        c .before .before .before .before .piece2 .ensures,
+      ),
+      rw (b .1, join-length)
+          (omega (arith, decimal-20 (b .0 .0 .first) (omega arith), decimal-20 (b .0 .0 .count) (omega arith))),
+    )
 
 returns-3 : tie.Need-returns-3
 unfolding bodyText
 returns-3 c =
-    let b = c .before .before .before .before .before .before .body2 .given in
-    (rw (b .1, put-join, c .piece4 .ensures, c .before .before .decimal3 .ensures, c .before .before .before .piece3 .ensures), rw (b .1, join-length) (omega (arith, decimal-20 (b .0 .0 .tick) (omega arith))))
+    let b = c .before .before .before .before .before .before .body2 .given in (
+      rw (
+        b .1,
+        put-join,
+        c .piece4 .ensures,
+        c .before .before .decimal3 .ensures,
+        c .before .before .before .piece3 .ensures,
+      ),
+      rw (b .1, join-length) (omega (arith, decimal-20 (b .0 .0 .tick) (omega arith))),
+    )
 
 returns-4 : tie.Need-returns-4
 unfolding bodyText
 returns-4 c =
-    let b = c .before .before .before .before .before .before .body3 .given in
-    (rw (b .1, put-join, c .piece6 .ensures, c .before .before .decimal4 .ensures, c .before .before .before .piece5 .ensures), rw (b .1, join-length) (omega (arith, decimal-20 (b .0 .0 .tick) (omega arith))))
+    let b = c .before .before .before .before .before .before .body3 .given in (
+      rw (
+        b .1,
+        put-join,
+        c .piece6 .ensures,
+        c .before .before .decimal4 .ensures,
+        c .before .before .before .piece5 .ensures,
+      ),
+      rw (b .1, join-length) (omega (arith, decimal-20 (b .0 .0 .tick) (omega arith))),
+    )
 
 returns-5 : tie.Need-returns-5
 unfolding bodyText
@@ -36,7 +63,7 @@ returns-5 c = rw (c .before .before .enum-told2 .given .1) (c .piece7 .ensures, 
 pub body-spec : {M : Type 1} → statement M
 body-spec =
     tie.close
-    (tie.spec (search needs) (search needs) (search needs) (search needs) (search needs) (search needs) (search needs) (search needs) (search needs)
-    (search needs) (search needs) (search needs) (search needs) (search needs) (search needs) (search needs) (search needs) (search needs)
-    (search needs) (search needs) (search needs) (search needs) (search needs) (search needs) (search needs) returns returns-2 returns-3 returns-4
-    returns-5)
+    (tie.spec (search needs) (search needs) (search needs) (search needs) (search needs) (search needs) (search needs)
+    (search needs) (search needs) (search needs) (search needs) (search needs) (search needs) (search needs)
+    (search needs) (search needs) (search needs) (search needs) (search needs) (search needs) (search needs)
+    (search needs) (search needs) (search needs) (search needs) returns returns-2 returns-3 returns-4 returns-5)

@@ -10,7 +10,16 @@ returns : tie.Need-returns
 unfolding endedLine
 returns c =
     let said = c .before .outcome .ensures in
-    record { wrote = rw (put-join, c .byte .ensures, said .0, c .before .before .piece .ensures, c .before .before .before .before .new .ensures); fits = rw join-length (omega (arith, said .1)) }
+    record {
+      wrote = rw (
+        put-join,
+        c .byte .ensures,
+        said .0,
+        c .before .before .piece .ensures,
+        c .before .before .before .before .new .ensures,
+      );
+      fits = rw join-length (omega (arith, said .1));
+    }
 
 pub ended-spec : {M : Type 1} → statement M
 ended-spec = tie.close (tie.spec (search needs) (search needs) (search needs) (search needs) (search needs) returns)

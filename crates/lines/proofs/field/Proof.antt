@@ -24,10 +24,16 @@ returns c =
     let sized = c .before .before .before in
     let a = sized .before .before .args in
     let long : length (a .t2) ≡ 16 = search needs in
-    let n : sized .least .result ≡ min (a .width) (length (a .t2)) = rw (long, ← sized .before .wide .ensures) (sized .least .ensures) in
+    let n : sized .least .result ≡ min (a .width) (length (a .t2)) =
+    rw (long, ← sized .before .wide .ensures) (sized .least .ensures) in
     let head : take (sized .least .result) (a .t2) ≡ take (a .width) (a .t2) = rw (n, take-min) in
-    let few : length (take (a .width) (a .t2)) ≤ 16 = rw length-take (omega arith) in
-    (rw (put-join, ← head, c .hex-bytes .ensures, c .before .before .byte .ensures), rw (join-length, hex-bytes-length) (omega arith))
+    let few : length (take (a .width) (a .t2)) ≤ 16 = rw length-take (omega arith) in (
+      rw (put-join, ← head, c .hex-bytes .ensures, c .before .before .byte .ensures),
+      rw (join-length, hex-bytes-length) (omega arith),
+    )
 
 pub field-spec : {M : Type 1} → statement M
-field-spec = tie.close (tie.spec (search needs) (search needs) (search needs) array-share-prefix-row slice-aggregate-hex-bytes (search needs) returns)
+field-spec =
+    tie.close
+    (tie.spec (search needs) (search needs) (search needs) array-share-prefix-row slice-aggregate-hex-bytes
+    (search needs) returns)

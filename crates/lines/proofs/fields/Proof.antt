@@ -1,4 +1,5 @@
--- `lines::fields` the invariant: the rows that are left give what all of them give, and each row done has at most 33 bytes. Assumes nothing.
+-- `lines::fields` the invariant: the rows that are left give what all of them give, and each row done has at most 33
+-- bytes. Assumes nothing.
 use mathlib.Core.Path.{_≡_, sym, ap, _∙_}
 use mathlib.Core.List.{[]}
 use Prim.Native.Nat.{_+_, _-_, _*_, _≤_}
@@ -30,7 +31,8 @@ loop-again c =
     let a = c .before .before .before .before .before .before .args in
     let row = fields-row (a .count) (a .width) (a .t2) (at .k) (omega arith) (omega arith) in
     let rest = fieldTexts (a .count - (at .k + 1)) (a .width) (drop (at .k + 1) (a .t2)) in
-    let longer : length (fieldTexts (a .count - at .k) (a .width) (drop (at .k) (a .t2))) ≤ 33 + length rest = rw (row, length-append) (omega (arith, c .field .ensures .1)) in (
+    let longer : length (fieldTexts (a .count - at .k) (a .width) (drop (at .k) (a .t2))) ≤ 33 + length rest =
+    rw (row, length-append) (omega (arith, c .field .ensures .1)) in (
       omega arith,
       ap (λ t. put t rest) (c .field .ensures .0) ∙ sym (put-append _ _ _) ∙ sym (ap (put (at .out)) row) ∙ at .inv .1,
       omega (arith, at .inv .2, longer),
@@ -41,10 +43,12 @@ returns c =
     let at = c .before .loop in
     let a = c .before .before .before .before .args in
     let long : length (a .t2) ≡ 8 = search needs in
-    let done : fieldTexts (a .count - at .k) (a .width) (drop (at .k) (a .t2)) ≡ [] = fields-end (a .count) (a .width) (a .t2) (at .k) (rw long (omega arith)) in
+    let done : fieldTexts (a .count - at .k) (a .width) (drop (at .k) (a .t2)) ≡ [] =
+    fields-end (a .count) (a .width) (a .t2) (at .k) (rw long (omega arith)) in
     (sym (put-nil _) ∙ rw done at (at .inv .1), omega (arith, rw done at (at .inv .2)))
 
 pub fields-spec : {M : Type 1} → statement M
 fields-spec =
     tie.close
-    (tie.spec Inv-loop μ-loop (search needs) (search needs) loop-holds (search needs) (search needs) (search needs) (search needs) (search needs) loop-again returns)
+    (tie.spec Inv-loop μ-loop (search needs) (search needs) loop-holds (search needs) (search needs) (search needs)
+    (search needs) (search needs) loop-again returns)

@@ -13,4 +13,5 @@ unfolding leaveLine
 returns-2 c = rw (c .before .before .enum-told .given .1) (c .numbered .ensures)
 
 pub leave-line-spec : {M : Type 1} → statement M
-leave-line-spec = tie.close (tie.spec (search needs) (search needs) (search needs) (search needs) (search needs) returns returns-2)
+leave-line-spec =
+    tie.close (tie.spec (search needs) (search needs) (search needs) (search needs) (search needs) returns returns-2)

@@ -12,7 +12,17 @@ returns : tie.Need-returns
 unfolding numbered
 returns c =
     let a = c .before .before .before .before .before .before .args in
-    record { wrote = rw (put-join, c .byte .ensures, c .before .decimal .ensures, c .before .before .long .ensures, c .before .before .before .piece .ensures, c .before .before .before .before .new .ensures); fits = omega (arith, numbered-length (now (a .name)) (a .n) (omega arith) (omega arith)) }
+    record {
+      wrote = rw (
+        put-join,
+        c .byte .ensures,
+        c .before .decimal .ensures,
+        c .before .before .long .ensures,
+        c .before .before .before .piece .ensures,
+        c .before .before .before .before .new .ensures,
+      );
+      fits = omega (arith, numbered-length (now (a .name)) (a .n) (omega arith) (omega arith));
+    }
 
 pub numbered-spec : {M : Type 1} → statement M
 numbered-spec = tie.close (tie.spec (search needs) (search needs) (search needs) (search needs) (search needs) returns)

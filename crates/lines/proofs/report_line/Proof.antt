@@ -18,10 +18,11 @@ returns-3 : tie.Need-returns-3
 unfolding reportLine
 returns-3 c =
     let json = c .before .json .ensures in
-    rw (c .before .before .enum-told3 .given .1) (record { wrote = rw (put-join, c .byte .ensures, json .0); fits = rw join-length (omega (arith, json .1)) })
+    rw (c .before .before .enum-told3 .given .1)
+    (record { wrote = rw (put-join, c .byte .ensures, json .0); fits = rw join-length (omega (arith, json .1)) })
 
 pub report-line-spec : {M : Type 1} → statement M
 report-line-spec =
     tie.close
-    (tie.spec (search needs) (search needs) (search needs) (search needs) (search needs) (search needs) (search needs) (search needs) (search needs)
-    returns returns-2 returns-3)
+    (tie.spec (search needs) (search needs) (search needs) (search needs) (search needs) (search needs) (search needs)
+    (search needs) (search needs) returns returns-2 returns-3)

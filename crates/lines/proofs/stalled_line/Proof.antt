@@ -11,10 +11,28 @@ returns : tie.Need-returns
 unfolding stalledLine
 returns c =
     let a = c .before .before .before .before .before .before .before .before .before .args in
-    record { wrote = rw (put-join, c .byte3 .ensures, c .before .decimal3 .ensures, c .before .before .byte2 .ensures, c .before .before .before .decimal2 .ensures, c .before .before .before .before .byte .ensures, c .before .before .before .before .before .decimal .ensures, c .before .before .before .before .before .before .piece .ensures, c .before .before .before .before .before .before .before .before .new .ensures); fits = rw join-length (omega (arith, decimal-20 (a .tick) (omega arith), decimal-20 (a .waiting) (omega arith), decimal-20 (a .pumps) (omega arith))) }
+    record {
+      wrote = rw (
+        put-join,
+        c .byte3 .ensures,
+        c .before .decimal3 .ensures,
+        c .before .before .byte2 .ensures,
+        c .before .before .before .decimal2 .ensures,
+        c .before .before .before .before .byte .ensures,
+        c .before .before .before .before .before .decimal .ensures,
+        c .before .before .before .before .before .before .piece .ensures,
+        c .before .before .before .before .before .before .before .before .new .ensures,
+      );
+      fits = rw join-length (omega (
+        arith,
+        decimal-20 (a .tick) (omega arith),
+        decimal-20 (a .waiting) (omega arith),
+        decimal-20 (a .pumps) (omega arith),
+      ));
+    }
 
 pub stalled-line-spec : {M : Type 1} → statement M
 stalled-line-spec =
     tie.close
-    (tie.spec (search needs) (search needs) (search needs) (search needs) (search needs) (search needs) (search needs) (search needs) (search needs)
-    returns)
+    (tie.spec (search needs) (search needs) (search needs) (search needs) (search needs) (search needs) (search needs)
+    (search needs) (search needs) returns)

@@ -22,7 +22,10 @@ going c = if-false _ _ (ap isOver (c .enum-told2 .given .1))
 marks : (c : tie.After-subset) → let s = c .before .before .before .before .before .before .args .s in
     isPlaying s && isSubset seats (remotesOf (s .params)) (s .seen) ≡ c .subset .result
 marks c =
-    rw (sym (c .before .before .before .is-playing .ensures) ∙ not-false _ (c .before .before .if1 .left), ← c .before .remotes .ensures)
+    rw (
+      sym (c .before .before .before .is-playing .ensures) ∙ not-false _ (c .before .before .if1 .left),
+      ← c .before .remotes .ensures,
+    )
     (sym (c .subset .ensures))
 
 returns : tie.Need-returns
@@ -35,7 +38,8 @@ returns-2 c =
     sym
     (going (c .before .before)
     ∙ if-false _ _
-    (ap (λ (on : Bool). on && isSubset seats (remotesOf (s .params)) (s .seen)) (sym (c .before .is-playing .ensures) ∙ not-true _ (c .if1 .taken))))
+    (ap (λ (on : Bool). on && isSubset seats (remotesOf (s .params)) (s .seen))
+    (sym (c .before .is-playing .ensures) ∙ not-true _ (c .if1 .taken))))
 
 returns-3 : tie.Need-returns-3
 returns-3 c = sym (going (c .before .before .before .before .before) ∙ if-true _ _ (marks (c .before) ∙ c .if2 .taken))
@@ -46,4 +50,5 @@ returns-4 c = sym (going (c .before .before .before .before .before) ∙ if-fals
 pub first-kind-spec : {M : Type 1} → statement M
 first-kind-spec =
     tie.close
-    (tie.spec (search needs) returns (search needs) (search needs) returns-2 (search needs) (search needs) returns-3 returns-4)
+    (tie.spec (search needs) returns (search needs) (search needs) returns-2 (search needs) (search needs) returns-3
+    returns-4)

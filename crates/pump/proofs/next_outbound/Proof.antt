@@ -15,7 +15,8 @@ returns c = c .quiet .ensures ∙ sym (if-true _ _ (sym (c .before .before .bad-
 
 returns-2 : tie.Need-returns-2
 unfolding pump
-returns-2 c = c .pump-from .ensures ∙ sym (if-false _ _ (sym (c .before .before .bad-state .ensures) ∙ c .before .if1 .left))
+returns-2 c =
+    c .pump-from .ensures ∙ sym (if-false _ _ (sym (c .before .before .bad-state .ensures) ∙ c .before .if1 .left))
 
 pub next-outbound-spec : {M : Type 1} → statement M
 next-outbound-spec = tie.close (tie.spec (search needs) (search needs) returns pump-from-requires returns-2)

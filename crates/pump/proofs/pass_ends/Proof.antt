@@ -12,7 +12,8 @@ returns : tie.Need-returns
 unfolding passEnds
 returns c =
     let at = c .before .before .before .before .before in
-    c .quiet .ensures ∙ ap (λ (kind : Emit). quiet (withEmit (at .before .args .s) kind 0) Nothing) (at .first-kind .ensures)
+    c .quiet .ensures ∙ ap (λ (kind : Emit). quiet (withEmit (at .before .args .s) kind 0) Nothing)
+    (at .first-kind .ensures)
 
 pub pass-ends-spec : {M : Type 1} → statement M
 pass-ends-spec = tie.close (tie.spec (search needs) (search needs) returns)

@@ -12,15 +12,19 @@ unfolding pumpDigest
 returns c =
     let at = c .before .before .before .before in
     let s = at .before .args .s in
-    c .send .ensures ∙ sym (sent-one s Digest (passEnds s) (sym (at .say-next .ensures) ∙ c .before .before .said .given .1))
+    c .send .ensures
+    ∙ sym (sent-one s Digest (passEnds s) (sym (at .say-next .ensures) ∙ c .before .before .said .given .1))
 
 returns-2 : tie.Need-returns-2
 unfolding pumpDigest
 returns-2 c =
     let at = c .before .before .before in
     let s = at .before .args .s in
-    c .pass-ends .ensures ∙ sym (sent-none s Digest (passEnds s) (sym (at .say-next .ensures) ∙ c .before .enum-told .given .1))
+    c .pass-ends .ensures
+    ∙ sym (sent-none s Digest (passEnds s) (sym (at .say-next .ensures) ∙ c .before .enum-told .given .1))
 
 pub pump-digest-spec : {M : Type 1} → statement M
 pump-digest-spec =
-    tie.close (tie.spec (search needs) (search needs) (λ c κs. c .before .before .before .before .pre) returns (search needs) (search needs) returns-2)
+    tie.close
+    (tie.spec (search needs) (search needs) (λ c κs. c .before .before .before .before .pre) returns (search needs)
+    (search needs) returns-2)

@@ -7,26 +7,32 @@ use Rattle.pump.proofs.pump_from.Tie as tie
 
 returns : tie.Need-returns
 unfolding pumpFrom
-returns c = c .pump-hello .ensures ∙ sym (ap (pumpFrom (c .before .before .before .args .s)) (c .before .enum-told .given .1))
+returns c =
+    c .pump-hello .ensures ∙ sym (ap (pumpFrom (c .before .before .before .args .s)) (c .before .enum-told .given .1))
 
 returns-2 : tie.Need-returns-2
 unfolding pumpFrom
-returns-2 c = c .pump-inputs .ensures ∙ sym (ap (pumpFrom (c .before .before .before .args .s)) (c .before .enum-told2 .given .1))
+returns-2 c =
+    c .pump-inputs .ensures ∙ sym (ap (pumpFrom (c .before .before .before .args .s)) (c .before .enum-told2 .given .1))
 
 returns-3 : tie.Need-returns-3
 unfolding pumpFrom
-returns-3 c = c .pump-digest .ensures ∙ sym (ap (pumpFrom (c .before .before .before .args .s)) (c .before .enum-told3 .given .1))
+returns-3 c =
+    c .pump-digest .ensures ∙ sym (ap (pumpFrom (c .before .before .before .args .s)) (c .before .enum-told3 .given .1))
 
 returns-4 : tie.Need-returns-4
 unfolding pumpFrom
-returns-4 c = c .pump-bye .ensures ∙ sym (ap (pumpFrom (c .before .before .before .args .s)) (c .before .enum-told4 .given .1))
+returns-4 c =
+    c .pump-bye .ensures ∙ sym (ap (pumpFrom (c .before .before .before .args .s)) (c .before .enum-told4 .given .1))
 
 returns-5 : tie.Need-returns-5
 unfolding pumpFrom
-returns-5 c = c .pass-ends .ensures ∙ sym (ap (pumpFrom (c .before .before .before .args .s)) (c .before .enum-told5 .given .1))
+returns-5 c =
+    c .pass-ends .ensures ∙ sym (ap (pumpFrom (c .before .before .before .args .s)) (c .before .enum-told5 .given .1))
 
 pub pump-from-spec : {M : Type 1} → statement M
 pump-from-spec =
     tie.close
-    (tie.spec (search needs) (λ c κs. c .before .before .pre) (search needs) (λ c κs. c .before .before .pre) (search needs) (λ c κs. c .before .before .pre) (search needs) (λ c κs. c .before .before .pre) (search needs)
+    (tie.spec (search needs) (λ c κs. c .before .before .pre) (search needs) (λ c κs. c .before .before .pre)
+    (search needs) (λ c κs. c .before .before .pre) (search needs) (λ c κs. c .before .before .pre) (search needs)
     (search needs) returns returns-2 returns-3 returns-4 returns-5)

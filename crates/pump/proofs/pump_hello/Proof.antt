@@ -21,19 +21,24 @@ returns c =
 rest : (c : tie.After-enum-told) → let a = c .before .before .before .args in let s = a .s in
     pumpHello s (a .place) ≡ if isPlaying s then pumpInputs s 0 else passEnds s
 unfolding pumpHello
-rest c = sent-none (c .before .before .before .args .s) Hello _ (sym (c .before .before .say-next .ensures) ∙ c .enum-told .given .1)
+rest c =
+    sent-none (c .before .before .before .args .s) Hello _
+    (sym (c .before .before .say-next .ensures) ∙ c .enum-told .given .1)
 
 returns-2 : tie.Need-returns-2
 returns-2 c =
     let at = c .before .before in
-    c .pump-inputs .ensures ∙ sym (rest (at .before) ∙ if-true _ _ (sym (at .is-playing .ensures) ∙ c .before .if1 .taken))
+    c .pump-inputs .ensures
+    ∙ sym (rest (at .before) ∙ if-true _ _ (sym (at .is-playing .ensures) ∙ c .before .if1 .taken))
 
 returns-3 : tie.Need-returns-3
 returns-3 c =
     let at = c .before .before in
-    c .pass-ends .ensures ∙ sym (rest (at .before) ∙ if-false _ _ (sym (at .is-playing .ensures) ∙ c .before .if1 .left))
+    c .pass-ends .ensures
+    ∙ sym (rest (at .before) ∙ if-false _ _ (sym (at .is-playing .ensures) ∙ c .before .if1 .left))
 
 pub pump-hello-spec : {M : Type 1} → statement M
 pump-hello-spec =
     tie.close
-    (tie.spec (search needs) (search needs) (λ c κs. c .before .before .before .before .pre) returns (search needs) (search needs) (λ c κs. c .before .before .before .before .before .pre) returns-2 (search needs) returns-3)
+    (tie.spec (search needs) (search needs) (λ c κs. c .before .before .before .before .pre) returns (search needs)
+    (search needs) (λ c κs. c .before .before .before .before .before .pre) returns-2 (search needs) returns-3)

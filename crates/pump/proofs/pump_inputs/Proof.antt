@@ -20,7 +20,9 @@ returns c =
 rest : (c : tie.After-enum-told) → let a = c .before .before .before .args in let s = a .s in
     pumpInputs s (a .place) ≡ if isOwed (s .owed) then pumpDigest s 0 else passEnds s
 unfolding pumpInputs
-rest c = sent-none (c .before .before .before .args .s) Inputs _ (sym (c .before .before .say-next .ensures) ∙ c .enum-told .given .1)
+rest c =
+    sent-none (c .before .before .before .args .s) Inputs _
+    (sym (c .before .before .say-next .ensures) ∙ c .enum-told .given .1)
 
 returns-2 : tie.Need-returns-2
 returns-2 c =
@@ -35,4 +37,5 @@ returns-3 c =
 pub pump-inputs-spec : {M : Type 1} → statement M
 pump-inputs-spec =
     tie.close
-    (tie.spec (search needs) (search needs) (λ c κs. c .before .before .before .before .pre) returns (search needs) (search needs) (λ c κs. c .before .before .before .before .before .pre) returns-2 (search needs) returns-3)
+    (tie.spec (search needs) (search needs) (λ c κs. c .before .before .before .before .pre) returns (search needs)
+    (search needs) (λ c κs. c .before .before .before .before .before .pre) returns-2 (search needs) returns-3)

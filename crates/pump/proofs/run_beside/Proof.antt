@@ -11,7 +11,8 @@ returns c = sym (ap (runBeside (c .before .before .args .s)) (c .enum-told .give
 
 returns-2 : tie.Need-returns-2
 unfolding runBeside
-returns-2 c = c .run-of .ensures ∙ sym (ap (runBeside (c .before .before .before .args .s)) (c .before .enum-told2 .given .1))
+returns-2 c =
+    c .run-of .ensures ∙ sym (ap (runBeside (c .before .before .before .args .s)) (c .before .enum-told2 .given .1))
 
 returns-3 : tie.Need-returns-3
 unfolding runBeside noRun
@@ -28,4 +29,5 @@ returns-5 c = sym (ap (runBeside (c .before .before .args .s)) (c .enum-told5 .g
 pub run-beside-spec : {M : Type 1} → statement M
 run-beside-spec =
     tie.close
-    (tie.spec (search needs) (search needs) (λ c κs. c .before .before .pre) (search needs) (search needs) (search needs) returns returns-2 returns-3 returns-4 returns-5)
+    (tie.spec (search needs) (search needs) (λ c κs. c .before .before .pre) (search needs) (search needs)
+    (search needs) returns returns-2 returns-3 returns-4 returns-5)

@@ -19,14 +19,17 @@ in-run : (c : tie.Else1) → let a = c .before .before .before .args in a .j < a
 in-run c = rw (c .before .wide2 .ensures, c .before .before .wide .ensures) at (c .if1 .left)
 
 returns : tie.Need-returns
-returns c = sym (if-false _ _ (le-ltb _ _ (rw (c .before .wide2 .ensures, c .before .before .wide .ensures) at (c .if1 .taken))))
+returns c =
+    sym (if-false _ _
+    (le-ltb _ _ (rw (c .before .wide2 .ensures, c .before .before .wide .ensures) at (c .if1 .taken))))
 
 add-tick : tie.Need-add-tick
 add-tick c =
     let start = c .before .before .before in
     let a = start .args in
     rw (c .before .before .wide .ensures)
-    (omega (arith, frame-lt (now (a .ring)) (a .seat) (a .first) (a .count) (a .width) (a .j) (start .pre .1) (in-run c)))
+    (omega
+    (arith, frame-lt (now (a .ring)) (a .seat) (a .first) (a .count) (a .width) (a .j) (start .pre .1) (in-run c)))
 
 place : (c : tie.After-slot) → let start = c .before .before .before .before .before in
     let a = start .args in a .j % c .before .before .before .before .wide .result < a .width
@@ -34,7 +37,8 @@ place c =
     let start = c .before .before .before .before .before in
     let a = start .args in
     rw (c .before .before .before .before .wide .ensures)
-    (byte-lt (now (a .ring)) (a .seat) (a .first) (a .count) (a .width) (a .j) (start .pre .1) (in-run (c .before .before)))
+    (byte-lt (now (a .ring)) (a .seat) (a .first) (a .count) (a .width) (a .j) (start .pre .1)
+    (in-run (c .before .before)))
 
 add-result-2 : tie.Need-add-result-2
 add-result-2 c = omega (arith, place c)
@@ -53,5 +57,5 @@ returns-2 c =
 pub run-byte-spec : {M : Type 1} → statement M
 run-byte-spec =
     tie.close
-    (tie.spec (search needs) (search needs) mul-if1 returns (search needs) add-tick (search needs) (search needs) (search needs) (search needs)
-    (search needs) (search needs) add-result-2 element-copy-out-result returns-2)
+    (tie.spec (search needs) (search needs) mul-if1 returns (search needs) add-tick (search needs) (search needs)
+    (search needs) (search needs) (search needs) (search needs) add-result-2 element-copy-out-result returns-2)

@@ -29,4 +29,5 @@ returns c = filled-all (c .before .loop .inv) (omega arith)
 pub run-from-spec : {M : Type 1} → statement M
 run-from-spec =
     tie.close
-    (tie.spec Inv-loop μ-loop (λ c. filled-none refl) run-byte-requires (search needs) (search needs) (search needs) loop-again returns)
+    (tie.spec Inv-loop μ-loop (λ c. filled-none refl) run-byte-requires (search needs) (search needs) (search needs)
+    loop-again returns)

@@ -27,7 +27,8 @@ unfolding runOf
 returns c =
     let at = c .before .before in
     let s = at .before .args .s in
-    c .run-from .ensures ∙ ap (λ (n : ℕ). runFrom (s .window) (s .params .local) (s .next - n) n (s .params .width)) (at .carried .ensures)
+    c .run-from .ensures ∙ ap (λ (n : ℕ). runFrom (s .window) (s .params .local) (s .next - n) n (s .params .width))
+    (at .carried .ensures)
 
 pub run-of-spec : {M : Type 1} → statement M
 run-of-spec = tie.close (tie.spec (search needs) (search needs) sub-first run-from-requires returns)

@@ -15,7 +15,8 @@ unfolding say targetOf
 found c t e =
     let a = c .before .before .args in
     ap (sayTo (a .s) (a .emit))
-    (ap (λ (set : ℕ). nextRemote set (a .place) (seats - a .place)) (sym (c .before .remotes .ensures)) ∙ sym (c .next-remote .ensures) ∙ e)
+    (ap (λ (set : ℕ). nextRemote set (a .place) (seats - a .place)) (sym (c .before .remotes .ensures))
+    ∙ sym (c .next-remote .ensures) ∙ e)
 
 returns : tie.Need-returns
 unfolding sayTo
@@ -25,9 +26,11 @@ returns-2 : tie.Need-returns-2
 unfolding sayTo
 returns-2 c =
     let at = c .before .before .before in
-    c .addressed .ensures ∙ ap (addressed _) (c .before .kind-says .ensures) ∙ sym (found (at .before .before) _ (at .target .given .1))
+    c .addressed .ensures ∙ ap (addressed _) (c .before .kind-says .ensures)
+    ∙ sym (found (at .before .before) _ (at .target .given .1))
 
 pub say-next-spec : {M : Type 1} → statement M
 say-next-spec =
     tie.close
-    (tie.spec (search needs) (search needs) (search needs) (search needs) (search needs) (search needs) returns returns-2)
+    (tie.spec (search needs) (search needs) (search needs) (search needs) (search needs) (search needs) returns
+    returns-2)

@@ -15,7 +15,8 @@ use Rattle.pump.proofs.span.Statement.{statement}
 use Rattle.pump.proofs.span.Tie as tie
 
 abbrev Inv-loop : tie.InvT-loop
-Inv-loop seat newest w₀ tick₀ n₀ tick n = (n ≤ redundancy) × (span w₀ seat newest redundancy ≡ n + span w₀ seat tick (redundancy - n))
+Inv-loop seat newest w₀ tick₀ n₀ tick n =
+    (n ≤ redundancy) × (span w₀ seat newest redundancy ≡ n + span w₀ seat tick (redundancy - n))
 
 abbrev μ-loop : tie.MeasureT-loop
 μ-loop seat newest w₀ tick₀ n₀ tick n = redundancy - n
@@ -24,7 +25,8 @@ loop-holds : tie.Need-loop-holds Inv-loop μ-loop
 loop-holds c = (omega arith, omega arith)
 
 -- the cell stands at another tick
-elsewhere : (c : tie.Then1 Inv-loop μ-loop) → let l = c .before .before .before .before in isHeld (l .before .args .t1) (l .before .args .seat) (l .loop .tick) ≡ false
+elsewhere : (c : tie.Then1 Inv-loop μ-loop) → let l = c .before .before .before .before in
+    isHeld (l .before .args .t1) (l .before .args .seat) (l .loop .tick) ≡ false
 unfolding isHeld heldBy if_then_else_
 elsewhere c = rw (← c .before .before .slot .ensures, ne-eqb _ _ (c .if1 .taken)) (has-zero _)
 
@@ -50,7 +52,8 @@ returns-2 c =
     omega (
       arith,
       l .loop .inv .1,
-      span-gone (a .t1) (a .seat) (l .loop .tick) (l .loop .n) (omega arith) (cell-holds (c .before) ∙ not-true _ (c .if2 .taken)),
+      span-gone (a .t1) (a .seat) (l .loop .tick) (l .loop .n) (omega arith)
+          (cell-holds (c .before) ∙ not-true _ (c .if2 .taken)),
     )
 
 returns-3 : tie.Need-returns-3 Inv-loop μ-loop
@@ -60,7 +63,8 @@ returns-3 c =
     omega (
       arith,
       l .loop .inv .1,
-      span-start (a .t1) (a .seat) (l .loop .tick) (l .loop .n) (omega arith) (cell-holds (c .before .before) ∙ not-false _ (c .before .if2 .left)) (c .if3 .taken),
+      span-start (a .t1) (a .seat) (l .loop .tick) (l .loop .n) (omega arith)
+          (cell-holds (c .before .before) ∙ not-false _ (c .before .if2 .left)) (c .if3 .taken),
     )
 
 loop-again : tie.Need-loop-again Inv-loop μ-loop
@@ -71,17 +75,22 @@ loop-again c =
       omega (
         arith,
         l .loop .inv .1,
-        span-more (a .t1) (a .seat) (l .loop .tick) (l .loop .n) (omega arith) (cell-holds (c .before .before) ∙ not-false _ (c .before .if2 .left)) (c .if3 .left),
+        span-more (a .t1) (a .seat) (l .loop .tick) (l .loop .n) (omega arith)
+            (cell-holds (c .before .before) ∙ not-false _ (c .before .if2 .left)) (c .if3 .left),
       ),
     )
 
 returns-4 : tie.Need-returns-4 Inv-loop μ-loop
 returns-4 c =
     let l = c .before in
-    omega (arith, l .loop .inv .1, span-full (l .before .args .t1) (l .before .args .seat) (l .loop .tick) (l .loop .n) (omega arith))
+    omega (
+      arith,
+      l .loop .inv .1,
+      span-full (l .before .args .t1) (l .before .args .seat) (l .loop .tick) (l .loop .n) (omega arith),
+    )
 
 pub span-spec : {M : Type 1} → statement M
 span-spec =
     tie.close
-    (tie.spec Inv-loop μ-loop loop-holds (search needs) (search needs) (search needs) returns (search needs) (search needs) returns-2 (search needs) returns-3
-    (search needs) (λ c. omega arith) loop-again returns-4)
+    (tie.spec Inv-loop μ-loop loop-holds (search needs) (search needs) (search needs) returns (search needs)
+    (search needs) returns-2 (search needs) returns-3 (search needs) (λ c. omega arith) loop-again returns-4)

@@ -17,7 +17,8 @@ returns : tie.Need-returns
 returns c =
     let start = c .before .before .before .before in
     let long : length (start .args .t2) ≡ maxWidth = search needs in
-    let n : c .before .before .least .result ≡ min (start .args .width) (length (start .args .t2)) = rw long (omega arith) in
+    let n : c .before .before .least .result ≡ min (start .args .width) (length (start .args .t2)) =
+    rw long (omega arith) in
     c .absorb-bytes .ensures ∙ rw (n, take-min)
 
 pub absorb-head-spec : {M : Type 1} → statement M

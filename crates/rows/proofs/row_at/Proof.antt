@@ -22,7 +22,8 @@ loop-again : tie.Need-loop-again Inv-loop μ-loop
 loop-again c =
     let l = c .before .before .before in
     let a = l .before .before .args in
-    filled-more (l .loop .inv) (omega arith) (rw (l .before .wide .ensures) at (c .kept-if .ensures) ∙ byte-of (now (a .ring)) (a .at) (a .width) (l .loop .i))
+    filled-more (l .loop .inv) (omega arith) (rw (l .before .wide .ensures) at (c .kept-if .ensures)
+    ∙ byte-of (now (a .ring)) (a .at) (a .width) (l .loop .i))
 
 returns : tie.Need-returns Inv-loop μ-loop
 unfolding padded
@@ -31,5 +32,5 @@ returns c = filled-all (c .before .loop .inv) (omega arith)
 pub row-at-spec : {M : Type 1} → statement M
 row-at-spec =
     tie.close
-    (tie.spec Inv-loop μ-loop (search needs) (λ c. filled-none refl) (search needs) (search needs) (search needs) (search needs) (search needs)
-    (search needs) loop-again returns)
+    (tie.spec Inv-loop μ-loop (search needs) (λ c. filled-none refl) (search needs) (search needs) (search needs)
+    (search needs) (search needs) (search needs) loop-again returns)

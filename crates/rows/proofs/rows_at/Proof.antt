@@ -26,7 +26,8 @@ unfolding frameOf
 loop-again c =
     let l = c .before .before .before .before .before in
     filled-more (l .loop .inv) (omega arith)
-    (c .row-at .ensures ∙ rw (c .before .kept-if .ensures, l .before .slot .ensures, l .before .before .wide .ensures, take-if))
+    (c .row-at .ensures
+    ∙ rw (c .before .kept-if .ensures, l .before .slot .ensures, l .before .before .wide .ensures, take-if))
 
 returns : tie.Need-returns Inv-loop μ-loop
 unfolding rowsOf
@@ -35,5 +36,6 @@ returns c = filled-all (c .before .loop .inv) (omega arith)
 pub rows-at-spec : {M : Type 1} → statement M
 rows-at-spec =
     tie.close
-    (tie.spec Inv-loop μ-loop (search needs) (search needs) (λ c. filled-none refl) (search needs) (search needs) (search needs) (search needs)
-    (search needs) (search needs) (search needs) (search needs) (search needs) loop-again returns)
+    (tie.spec Inv-loop μ-loop (search needs) (search needs) (λ c. filled-none refl) (search needs) (search needs)
+    (search needs) (search needs) (search needs) (search needs) (search needs) (search needs) (search needs) loop-again
+    returns)

@@ -1,5 +1,5 @@
--- `rows::step_digest` meets its contract. The invariant: absorbing the rows that are left gives what absorbing all of them gives after the
--- tick. Assumes nothing.
+-- `rows::step_digest` meets its contract. The invariant: absorbing the rows that are left gives what absorbing all of
+-- them gives after the tick. Assumes nothing.
 use mathlib.Core.Path.{_≡_, sym, _∙_}
 use Prim.Native.Nat.{_≤_, _-_}
 use native.Mathlib.Nat.{sub-zero}
@@ -29,7 +29,8 @@ loop-again c =
     let at = c .before .before .before .loop in
     let args = c .before .before .before .before .before .before .before .args in (
       search needs,
-      rw (c .absorb-head .ensures) (heads-row (args .count) (args .width) (args .t3) (at .h .value) (at .k) (search needs) (search needs) ∙ at .inv .1),
+      rw (c .absorb-head .ensures) (heads-row (args .count) (args .width) (args .t3) (at .h .value) (at .k)
+          (search needs) (search needs) ∙ at .inv .1),
     )
 
 returns : tie.Need-returns Inv-loop μ-loop
@@ -38,11 +39,12 @@ returns c =
     let at = c .before .before .loop in
     let args = c .before .before .before .before .before .before .args in
     let long : length (args .t3) ≡ seats = search needs in
-    c .finish .ensures ∙ sym (heads-end (args .count) (args .width) (args .t3) (at .h .value) (at .k) (rw long (omega arith))) ∙ at .inv .1
+    c .finish .ensures ∙ sym
+    (heads-end (args .count) (args .width) (args .t3) (at .h .value) (at .k) (rw long (omega arith))) ∙ at .inv .1
     ∙ rw (c .before .before .before .absorb-u64 .ensures, fnv-append)
 
 pub step-digest-spec : {M : Type 1} → statement M
 step-digest-spec =
     tie.close
-    (tie.spec Inv-loop μ-loop (search needs) (search needs) (search needs) loop-holds (search needs) (search needs) (search needs)
-    (search needs) (search needs) loop-again (search needs) returns)
+    (tie.spec Inv-loop μ-loop (search needs) (search needs) (search needs) loop-holds (search needs) (search needs)
+    (search needs) (search needs) (search needs) loop-again (search needs) returns)

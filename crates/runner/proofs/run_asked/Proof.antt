@@ -10,7 +10,8 @@ returns : tie.Need-returns
 unfolding runAsked askedLine if_then_else_
 returns c =
     let asked = c .before .before .before .before .asked2 .given in
-    rw (asked .1, sym (c .before .before .bad-state .ensures) ∙ c .before .if1 .taken) (record { next = refl; says = c .none-line .ensures })
+    rw (asked .1, sym (c .before .before .bad-state .ensures) ∙ c .before .if1 .taken)
+    (record { next = refl; says = c .none-line .ensures })
 
 returns-2 : tie.Need-returns-2
 unfolding runAsked askedLine
@@ -29,5 +30,5 @@ returns-4 c =
 pub run-asked-spec : {M : Type 1} → statement M
 run-asked-spec =
     tie.close
-    (tie.spec (search needs) (search needs) (search needs) (search needs) (search needs) (search needs) (search needs) returns (search needs)
-    returns-2 returns-3 returns-4)
+    (tie.spec (search needs) (search needs) (search needs) (search needs) (search needs) (search needs) (search needs)
+    returns (search needs) returns-2 returns-3 returns-4)

@@ -20,9 +20,13 @@ returns c =
     let bytes = now (a .«record») in
     let line = askedLine (a .s) (asked bytes) (restOf bytes) (a .traced) in
     let ran = c .before .before .run-asked .result in
-    let run : Runs (runRecord (a .s) bytes) line ran = rw (c .before .before .before .before .asked-by .ensures, c .before .before .before .rest-of .ensures) at (c .before .before .run-asked .ensures) in
+    let run : Runs (runRecord (a .s) bytes) line ran = rw (
+      c .before .before .before .before .asked-by .ensures,
+      c .before .before .before .rest-of .ensures,
+    ) at (c .before .before .run-asked .ensures) in
     let shown = c .show .ensures in
-    let short : length (shownLine (runRecord (a .s) bytes) (a .traced)) ≤ 400 = subst (λ (s : Session). length (shownLine s (a .traced)) ≤ 400) (run .next) (shown .1) in
+    let short : length (shownLine (runRecord (a .s) bytes) (a .traced)) ≤ 400 =
+    subst (λ (s : Session). length (shownLine s (a .traced)) ≤ 400) (run .next) (shown .1) in
     record {
       next = run .next;
       wrote = shown .0 ∙ ap (λ t. put t (shownLine (ran .session) (a .traced))) (run .says .wrote)

@@ -14,7 +14,9 @@ returns c = rw (c .if1 .taken) (sym (put-nil _), omega arith)
 
 returns-2 : tie.Need-returns-2
 unfolding shownLine if_then_else_
-returns-2 c = rw (c .before .before .if1 .left, sym (c .before .bad-state .ensures) ∙ c .if2 .taken) (sym (put-nil _), omega arith)
+returns-2 c =
+    rw (c .before .before .if1 .left, sym (c .before .bad-state .ensures) ∙ c .if2 .taken)
+    (sym (put-nil _), omega arith)
 
 returns-3 : tie.Need-returns-3
 unfolding shownLine if_then_else_

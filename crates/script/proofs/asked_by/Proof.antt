@@ -35,15 +35,28 @@ returns-3 : tie.Need-returns-3
 unfolding if_then_else_
 returns-3 c =
     let two = c .before .before in
-    rw (good two, ← two .before .before .before .le .ensures .0, eq-eqb _ _ (c .before .if3 .taken), c .params-from .ensures, from-on _ 4)
+    rw (
+      good two,
+      ← two .before .before .before .le .ensures .0,
+      eq-eqb _ _ (c .before .if3 .taken),
+      c .params-from .ensures,
+      from-on _ 4,
+    )
 
 returns-4 : tie.Need-returns-4
 unfolding if_then_else_
 returns-4 c =
     let two = c .before .before in
-    rw (good two, ← two .before .before .before .le .ensures .0, ne-eqb _ _ (c .before .if3 .left), c .call-from .ensures, from-on _ 4)
+    rw (
+      good two,
+      ← two .before .before .before .le .ensures .0,
+      ne-eqb _ _ (c .before .if3 .left),
+      c .call-from .ensures,
+      from-on _ 4,
+    )
 
 pub asked-by-spec : {M : Type 1} → statement M
 asked-by-spec =
     tie.close
-    (tie.spec returns (search needs) (search needs) (search needs) (search needs) (search needs) returns-2 (search needs) returns-3 (search needs) returns-4)
+    (tie.spec returns (search needs) (search needs) (search needs) (search needs) (search needs) returns-2
+    (search needs) returns-3 (search needs) returns-4)

@@ -34,7 +34,11 @@ returns-6 c =
     let r = c .before .before .before .before .match .rest in
     let kind = c .before .before .before .before .before .before .args .kind in
     let three : 3 ≤ kind = omega (arith, r .0 .0 .0 .0 .1, c .before .before .before .if1 .left) in
-    rw (ne-eqb kind 2 (r .0 .0 .0 .0 .1), le-leb 3 kind three, le-leb kind 7 (omega (arith, c .before .before .if2 .taken))) (cc)
+    rw (
+      ne-eqb kind 2 (r .0 .0 .0 .0 .1),
+      le-leb 3 kind three,
+      le-leb kind 7 (omega (arith, c .before .before .if2 .taken)),
+    ) (cc)
 
 returns-7 : tie.Need-returns-7
 unfolding callFrom if_then_else_
@@ -68,5 +72,5 @@ returns-8 c =
 pub call-from-spec : {M : Type 1} → statement M
 call-from-spec =
     tie.close
-    (tie.spec (search needs) (search needs) (search needs) (search needs) (search needs) returns returns-2 returns-3 returns-4 returns-5 returns-6 returns-7
-    returns-8)
+    (tie.spec (search needs) (search needs) (search needs) (search needs) (search needs) returns returns-2 returns-3
+    returns-4 returns-5 returns-6 returns-7 returns-8)

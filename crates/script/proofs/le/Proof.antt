@@ -22,12 +22,15 @@ loop-holds c =
     rw e (omega arith, refl, omega arith)
 
 -- one byte more is no more than eight bytes hold
-room : (c : tie.After-long Inv-loop μ-loop) → let a = c .before .before .before .before .before .args in let at = c .before .before .before .loop in
+room : (c : tie.After-long Inv-loop μ-loop) → let a = c .before .before .before .before .before .args in let at =
+    c .before .before .before .loop in
     (c .long .result + at .value * 256 < 2 ^ (8 * (a .n - at .i + 1))) × (2 ^ (8 * (a .n - at .i + 1)) ≤ 2 ^ 64)
 room c =
     let a = c .before .before .before .before .before .args in
-    let at = c .before .before .before .loop in
-    (le-room (a .n - at .i) (at .value) (c .long .result) (at .inv .2) (omega arith), le-fits (a .n - at .i) (a .n) (omega arith) (omega arith))
+    let at = c .before .before .before .loop in (
+      le-room (a .n - at .i) (at .value) (c .long .result) (at .inv .2) (omega arith),
+      le-fits (a .n - at .i) (a .n) (omega arith) (omega arith),
+    )
 
 mul-value : tie.Need-mul-value Inv-loop μ-loop
 mul-value c = let r = room c in omega (arith, r .0, r .1)
@@ -41,7 +44,8 @@ loop-again c =
     let at = c .before .before .before .loop in
     let e : a .n - (at .i - 1) ≡ a .n - at .i + 1 = omega arith in (
       omega arith,
-      rw (c .long .ensures, c .before .byte-at .ensures, at .inv .1) (le-more _ (a .at) (at .i) (a .n) (omega arith) (at .inv .0)),
+      rw (c .long .ensures, c .before .byte-at .ensures, at .inv .1)
+          (le-more _ (a .at) (at .i) (a .n) (omega arith) (at .inv .0)),
       rw e (room c .0),
     )
 
@@ -54,4 +58,5 @@ returns c =
 pub le-spec : {M : Type 1} → statement M
 le-spec =
     tie.close
-    (tie.spec Inv-loop μ-loop loop-holds (λ c. omega arith) (λ c. omega arith) (λ c κs. search needs) (λ c. search needs) mul-value add-value (λ c. omega arith) loop-again returns)
+    (tie.spec Inv-loop μ-loop loop-holds (λ c. omega arith) (λ c. omega arith) (λ c κs. search needs)
+    (λ c. search needs) mul-value add-value (λ c. omega arith) loop-again returns)

@@ -9,4 +9,7 @@ unfolding paramsFrom
 returns c = cc
 
 pub params-from-spec : {M : Type 1} → statement M
-params-from-spec = tie.close (tie.spec (search needs) (search needs) (search needs) (search needs) (search needs) (search needs) (search needs) (search needs) (search needs) returns)
+params-from-spec =
+    tie.close
+    (tie.spec (search needs) (search needs) (search needs) (search needs) (search needs) (search needs) (search needs)
+    (search needs) (search needs) returns)

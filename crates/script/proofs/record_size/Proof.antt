@@ -21,7 +21,11 @@ returns-2 c = (
 
 returns-3 : tie.Need-returns-3
 unfolding recordSize if_then_else_
-returns-3 c = (rw (le-ltb _ _ (c .before .before .if1 .left), ← c .before .le .ensures .0, le-ltb _ _ (c .if2 .left)), λ e. absurd (omega (arith, e)))
+returns-3 c = (
+  rw (le-ltb _ _ (c .before .before .if1 .left), ← c .before .le .ensures .0, le-ltb _ _ (c .if2 .left)),
+  λ e. absurd (omega (arith, e)),
+)
 
 pub record-size-spec : {M : Type 1} → statement M
-record-size-spec = tie.close (tie.spec returns (search needs) (λ c. omega (arith, c .le .ensures .1)) returns-2 returns-3)
+record-size-spec =
+    tie.close (tie.spec returns (search needs) (λ c. omega (arith, c .le .ensures .1)) returns-2 returns-3)

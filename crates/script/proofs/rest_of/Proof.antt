@@ -17,8 +17,12 @@ returns : tie.Need-returns
 unfolding restOf
 returns c =
     let r = now (c .before .before .before .before .args .bytes) in
-    let from : c .before .rest-start .result ≡ restStart (kindOf r) (length r) = c .before .rest-start .ensures ∙ ap (λ k. restStart k (length r)) (c .before .before .le .ensures .0) in
+    let from : c .before .rest-start .result ≡ restStart (kindOf r) (length r) =
+    c .before .rest-start .ensures ∙ ap (λ k. restStart k (length r)) (c .before .before .le .ensures .0) in
     from-on r (c .before .rest-start .result) ∙ ap (λ i. drop i r) from
 
 pub rest-of-spec : {M : Type 1} → statement M
-rest-of-spec = tie.close (tie.spec (search needs) (search needs) (λ c. omega (arith, within c)) (λ c. omega (arith, within c)) (search needs) returns)
+rest-of-spec =
+    tie.close
+    (tie.spec (search needs) (search needs) (λ c. omega (arith, within c)) (λ c. omega (arith, within c)) (search needs)
+    returns)

@@ -52,7 +52,8 @@ returns-10 c = rw (c .match .keys9)
 
 -- a kind that is none of the single ones
 past : (c : tie.At-match-rest) → let a = c .before .args in
-    (rightLength (a .kind) (a .length) ≡ if leb 10 (a .kind) && leb (a .kind) 12 then eqb (a .length) 0 else false) × (1 ≤ a .kind → 10 ≤ a .kind)
+    (rightLength (a .kind) (a .length) ≡ if leb 10 (a .kind) && leb (a .kind) 12 then eqb (a .length) 0 else false)
+    × (1 ≤ a .kind → 10 ≤ a .kind)
 unfolding rightLength if_then_else_
 past c =
     let r8 = c .match .rest .0 in
@@ -64,8 +65,19 @@ past c =
     let r2 = r3 .0 in
     let r1 = r2 .0 in
     let r9 = c .match .rest .1 in (
-      rw (ne-eqb _ 1 (r1 .1), ne-eqb _ 2 (r2 .1), ne-eqb _ 3 (r3 .1), ne-eqb _ 4 (r4 .1), ne-eqb _ 5 (r5 .1), ne-eqb _ 6 (r6 .1), ne-eqb _ 7 (r7 .1), ne-eqb _ 8 (r8 .1), ne-eqb _ 9 r9),
-      λ l. let five : 5 ≤ c .before .args .kind = omega (arith, r1 .1, r2 .1, r3 .1, r4 .1) in omega (arith, five, r5 .1, r6 .1, r7 .1, r8 .1, r9),
+      rw (
+        ne-eqb _ 1 (r1 .1),
+        ne-eqb _ 2 (r2 .1),
+        ne-eqb _ 3 (r3 .1),
+        ne-eqb _ 4 (r4 .1),
+        ne-eqb _ 5 (r5 .1),
+        ne-eqb _ 6 (r6 .1),
+        ne-eqb _ 7 (r7 .1),
+        ne-eqb _ 8 (r8 .1),
+        ne-eqb _ 9 r9,
+      ),
+      λ l. let five : 5 ≤ c .before .args .kind = omega (arith, r1 .1, r2 .1, r3 .1, r4 .1) in
+          omega (arith, five, r5 .1, r6 .1, r7 .1, r8 .1, r9),
     )
 
 returns-11 : tie.Need-returns-11
@@ -87,4 +99,7 @@ returns-13 c =
     rw (p .0, le-leb 10 kind (p .1 (c .before .if2 .left)), lt-leb kind 12 (omega (arith, c .if3 .left)))
 
 pub right-length-spec : {M : Type 1} → statement M
-right-length-spec = tie.close (tie.spec returns returns-2 returns-3 returns-4 returns-5 returns-6 returns-7 returns-8 returns-9 returns-10 returns-11 returns-12 returns-13)
+right-length-spec =
+    tie.close
+    (tie.spec returns returns-2 returns-3 returns-4 returns-5 returns-6 returns-7 returns-8 returns-9 returns-10
+    returns-11 returns-12 returns-13)

@@ -44,4 +44,6 @@ returns-4 c =
 
 pub wants-local-spec : {M : Type 1} → statement M
 wants-local-spec =
-    tie.close (tie.spec (search needs) returns (search needs) returns-2 (search needs) (search needs) returns-3 (search needs) returns-4)
+    tie.close
+    (tie.spec (search needs) returns (search needs) returns-2 (search needs) (search needs) returns-3 (search needs)
+    returns-4)

@@ -23,7 +23,8 @@ slice-aggregate-take-turn : tie.Need-slice-aggregate-take-turn Inv-loop μ-loop
 slice-aggregate-take-turn c = search needs
 
 take-turn-requires : tie.Need-take-turn-requires Inv-loop μ-loop
-take-turn-requires c κs = (c .before .before .before .loop .inv .0 (c .before .if1 .taken), c .before .before .before .loop .inv .1)
+take-turn-requires c κs =
+    (c .before .before .before .loop .inv .0 (c .before .if1 .taken), c .before .before .before .loop .inv .1)
 
 sub-turns : tie.Need-sub-turns Inv-loop μ-loop
 sub-turns c = omega arith
@@ -40,5 +41,5 @@ returns c = tt
 pub run-spec : {M : Type 1} → statement M
 run-spec =
     tie.close
-    (tie.spec Inv-loop μ-loop (search needs) loop-holds slice-aggregate-take-turn take-turn-requires sub-turns loop-less loop-again (search needs)
-    (search needs) returns)
+    (tie.spec Inv-loop μ-loop (search needs) loop-holds slice-aggregate-take-turn take-turn-requires sub-turns loop-less
+    loop-again (search needs) (search needs) returns)

@@ -1,4 +1,5 @@
--- `stream::run_all` the invariant: what is used was read as the definition reads it, and the size is that of the record that comes next. Assumes nothing.
+-- `stream::run_all` the invariant: what is used was read as the definition reads it, and the size is that of the record
+-- that comes next. Assumes nothing.
 use mathlib.Core.Path.{_≡_}
 use mathlib.Core.Bool.{true≢false}
 use mathlib.Core.List.{List}
@@ -35,11 +36,16 @@ coming bytes p ready within more =
 loop-holds : tie.Need-loop-holds Inv-loop μ-loop
 loop-holds c = (
   upto-start _ _ _,
-  record { going = λ e. c .record-size .ensures .0; short = λ e. c .record-size .ensures .1; stopped = λ e. absurd (true≢false e) },
+  record {
+    going = λ e. c .record-size .ensures .0;
+    short = λ e. c .record-size .ensures .1;
+    stopped = λ e. absurd (true≢false e);
+  },
 )
 
 run-one-requires : tie.Need-run-one-requires Inv-loop μ-loop
-run-one-requires c κs = let at = c .before .before .loop in coming _ (at .p) (at .inv .1) (at .inv .0 .within) (c .if1 .taken) .1
+run-one-requires c κs =
+    let at = c .before .before .loop in coming _ (at .p) (at .inv .1) (at .inv .0 .within) (c .if1 .taken) .1
 
 loop-less : tie.Need-loop-less Inv-loop μ-loop
 loop-less c =
@@ -51,7 +57,8 @@ loop-again : tie.Need-loop-again Inv-loop μ-loop
 loop-again c =
     let at = c .before .before .before .loop in
     let next = coming _ (at .p) (at .inv .1) (at .inv .0 .within) (c .before .if1 .taken) in
-    let upto = upto-more _ _ _ (at .p .session) (at .p .used) (at .p .size) (at .inv .0) (next .0) (c .before .if1 .taken) in
+    let upto =
+    upto-more _ _ _ (at .p .session) (at .p .used) (at .p .size) (at .inv .0) (next .0) (c .before .if1 .taken) in
     (rw (c .run-one .ensures .0, c .run-one .ensures .1 .0) upto, c .run-one .ensures .1 .1)
 
 returns : tie.Need-returns Inv-loop μ-loop
@@ -60,4 +67,5 @@ returns c =
     (at .inv .0, (at .inv .1, omega arith))
 
 pub run-all-spec : {M : Type 1} → statement M
-run-all-spec = tie.close (tie.spec Inv-loop μ-loop (λ c κs. search needs) loop-holds run-one-requires loop-less loop-again returns)
+run-all-spec =
+    tie.close (tie.spec Inv-loop μ-loop (λ c κs. search needs) loop-holds run-one-requires loop-less loop-again returns)

@@ -10,7 +10,8 @@ use Rattle.stream.proofs.run_front.Statement.{statement}
 use Rattle.stream.proofs.run_front.Tie as tie
 
 -- what is run stands within the bytes at hand
-within : (c : tie.After-run-all) → let a = c .before .before .before .args in (length (take (a .all) (now (a .buf))) ≡ a .all) × (c .run-all .result .used ≤ a .all)
+within : (c : tie.After-run-all) → let a = c .before .before .before .args in
+    (length (take (a .all) (now (a .buf))) ≡ a .all) × (c .run-all .result .used ≤ a .all)
 within c =
     let a = c .before .before .before .args in
     let front = length-take-le (a .all) (now (a .buf)) (c .before .before .before .pre) in
@@ -23,7 +24,8 @@ sub-left : tie.Need-sub-left
 sub-left c = within c .1
 
 shift-requires : tie.Need-shift-requires
-shift-requires c κs = let w = within (c .before .before) in omega (arith, w .1, c .before .before .before .before .before .pre)
+shift-requires c κs =
+    let w = within (c .before .before) in omega (arith, w .1, c .before .before .before .before .before .pre)
 
 returns : tie.Need-returns
 returns c =
@@ -34,4 +36,6 @@ returns c =
     omega (arith, short, w .0, w .1)
 
 pub run-front-spec : {M : Type 1} → statement M
-run-front-spec = tie.close (tie.spec (search needs) slice-aggregate-run-all (search needs) sub-left shift-requires (search needs) returns)
+run-front-spec =
+    tie.close
+    (tie.spec (search needs) slice-aggregate-run-all (search needs) sub-left shift-requires (search needs) returns)

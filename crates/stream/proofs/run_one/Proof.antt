@@ -15,18 +15,24 @@ ran : (c : tie.After-run-record) → let a = c .before .before .before .before .
     c .run-record .result .session ≡ runRecord (a .p .session) (take (a .p .size) (drop (a .p .used) (now (a .bytes))))
 ran c =
     let a = c .before .before .before .before .before .args in
-    c .run-record .ensures .next ∙ ap (λ n. runRecord (a .p .session) (take n (drop (a .p .used) (now (a .bytes))))) (add-sub-cancel-left (a .p .used) (a .p .size))
+    c .run-record .ensures .next ∙ ap (λ n. runRecord (a .p .session) (take n (drop (a .p .used) (now (a .bytes)))))
+    (add-sub-cancel-left (a .p .used) (a .p .size))
 
 returns : tie.Need-returns
-returns c = (ran (c .before .before .before), (refl, record { going = λ e. absurd (false≢true e); short = λ e. absurd (false≢true e); stopped = λ e. refl }))
+returns c = (
+  ran (c .before .before .before),
+  (refl, record { going = λ e. absurd (false≢true e); short = λ e. absurd (false≢true e); stopped = λ e. refl }),
+)
 
 returns-2 : tie.Need-returns-2
 returns-2 c =
-    let size = rw (from-on _ _) at (c .record-size .ensures) in
-    (ran (c .before .before .before .before .before), (refl, record { going = λ e. size .0; short = λ e. size .1; stopped = λ e. absurd (true≢false e) }))
+    let size = rw (from-on _ _) at (c .record-size .ensures) in (
+      ran (c .before .before .before .before .before),
+      (refl, record { going = λ e. size .0; short = λ e. size .1; stopped = λ e. absurd (true≢false e) }),
+    )
 
 pub run-one-spec : {M : Type 1} → statement M
 run-one-spec =
     tie.close
-    (tie.spec (search needs) (search needs) (search needs) (search needs) (search needs) (search needs) returns (search needs) (search needs)
-    (search needs) (search needs) returns-2)
+    (tie.spec (search needs) (search needs) (search needs) (search needs) (search needs) (search needs) returns
+    (search needs) (search needs) (search needs) (search needs) returns-2)

@@ -18,4 +18,5 @@ slice-aggregate-write-all : tie.Need-slice-aggregate-write-all
 slice-aggregate-write-all c = sym (length-take-le _ _ (few (c .before .before)))
 
 pub say-spec : {M : Type 1} → statement M
-say-spec = tie.close (tie.spec (search needs) array-share-prefix-bytes slice-aggregate-write-all (search needs) (search needs))
+say-spec =
+    tie.close (tie.spec (search needs) array-share-prefix-bytes slice-aggregate-write-all (search needs) (search needs))

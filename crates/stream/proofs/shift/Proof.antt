@@ -40,4 +40,7 @@ returns : tie.Need-returns Inv-loop μ-loop
 returns c = tt
 
 pub shift-spec : {M : Type 1} → statement M
-shift-spec = tie.close (tie.spec Inv-loop μ-loop loop-holds add-buf slice-read-buf slice-write-buf add-i loop-less loop-again same-length returns)
+shift-spec =
+    tie.close
+    (tie.spec Inv-loop μ-loop loop-holds add-buf slice-read-buf slice-write-buf add-i loop-less loop-again same-length
+    returns)

@@ -14,9 +14,27 @@ returns c =
     let start = c .before .before .before .before .before .before in
     let s = start .args .s in
     let g = start .good .1 .0 .1 .1 in (
-      rw (put-join, c .spaced5 .ensures, c .before .spaced4 .ensures, c .before .before .spaced3 .ensures, c .before .before .before .spaced2 .ensures, c .before .before .before .before .spaced .ensures, c .before .before .before .before .before .decimal .ensures),
-      rw join-length (omega (arith, decimal-20 (s .«datagrams_refused») (g .0 .1), spaced-short (s .«frames_repeated») (g .1 .0 .1), spaced-short (s .«frames_contradicted») (g .1 .1 .0 .1), spaced-short (s .«frames_out_of_window») (g .1 .1 .1 .0 .1), spaced-short (s .«digests_contradicted») (g .1 .1 .1 .1 .0 .1), spaced-short (s .«stall_pumps») (g .1 .1 .1 .1 .1 .0 .1))),
+      rw (
+        put-join,
+        c .spaced5 .ensures,
+        c .before .spaced4 .ensures,
+        c .before .before .spaced3 .ensures,
+        c .before .before .before .spaced2 .ensures,
+        c .before .before .before .before .spaced .ensures,
+        c .before .before .before .before .before .decimal .ensures,
+      ),
+      rw join-length (omega (
+        arith,
+        decimal-20 (s .«datagrams_refused») (g .0 .1),
+        spaced-short (s .«frames_repeated») (g .1 .0 .1),
+        spaced-short (s .«frames_contradicted») (g .1 .1 .0 .1),
+        spaced-short (s .«frames_out_of_window») (g .1 .1 .1 .0 .1),
+        spaced-short (s .«digests_contradicted») (g .1 .1 .1 .1 .0 .1),
+        spaced-short (s .«stall_pumps») (g .1 .1 .1 .1 .1 .0 .1),
+      )),
     )
 
 pub counters-spec : {M : Type 1} → statement M
-counters-spec = tie.close (tie.spec (search needs) (search needs) (search needs) (search needs) (search needs) (search needs) returns)
+counters-spec =
+    tie.close
+    (tie.spec (search needs) (search needs) (search needs) (search needs) (search needs) (search needs) returns)

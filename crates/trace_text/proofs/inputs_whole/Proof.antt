@@ -54,5 +54,5 @@ returns c =
 pub inputs-whole-spec : {M : Type 1} → statement M
 inputs-whole-spec =
     tie.close
-    (tie.spec (search needs) (search needs) (search needs) (search needs) (search needs) (search needs) (search needs) array-share-prefix-run
-    slice-aggregate-hex-bytes (search needs) returns)
+    (tie.spec (search needs) (search needs) (search needs) (search needs) (search needs) (search needs) (search needs)
+    array-share-prefix-run slice-aggregate-hex-bytes (search needs) returns)

@@ -14,8 +14,17 @@ returns c =
     let start = c .before .before .before .before in
     let m = start .args .m in
     let g = start .good .1 .0 .1 .1 in
-    let body = c .body-whole .ensures in
-    (rw (put-join, body .0, c .before .spaced .ensures, c .before .before .decimal .ensures, c .before .before .before .long .ensures), rw join-length (omega (arith, body .1, decimal-20 (m .sender) (omega (arith, g .0 .1)), spaced-short (m .session) (g .1 .0 .1))))
+    let body = c .body-whole .ensures in (
+      rw (
+        put-join,
+        body .0,
+        c .before .spaced .ensures,
+        c .before .before .decimal .ensures,
+        c .before .before .before .long .ensures,
+      ),
+      rw join-length (omega
+          (arith, body .1, decimal-20 (m .sender) (omega (arith, g .0 .1)), spaced-short (m .session) (g .1 .0 .1))),
+    )
 
 pub message-whole-spec : {M : Type 1} → statement M
 message-whole-spec = tie.close (tie.spec (search needs) (search needs) (search needs) (search needs) returns)

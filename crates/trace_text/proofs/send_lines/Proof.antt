@@ -17,7 +17,9 @@ returns c =
     let line = c .before .before .send-line .ensures in
     let sent = c .sent-line .ensures in
     rw (c .before .if1 .taken) (record {
-      wrote = sent .0 ∙ ap (λ t. put t (sentLine (c .before .before .before .args .answer) (c .before .before .before .args .run))) (line .0 .wrote) ∙ sym (put-append _ _ _);
+      wrote = sent .0
+          ∙ ap (λ t. put t (sentLine (c .before .before .before .args .answer) (c .before .before .before .args .run)))
+          (line .0 .wrote) ∙ sym (put-append _ _ _);
       fits = rw length-append (omega (arith, line .1, sent .1));
     })
 

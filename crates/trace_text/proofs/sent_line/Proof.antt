@@ -11,8 +11,10 @@ returns : tie.Need-returns
 unfolding sentLine
 returns c =
     let a = c .before .before .before .before .before .answer .given in
-    let body = c .before .message-whole .ensures in
-    (rw (a .1, put-join, c .byte .ensures, body .0, c .before .before .piece .ensures), rw (a .1, join-length) (omega (arith, body .1)))
+    let body = c .before .message-whole .ensures in (
+      rw (a .1, put-join, c .byte .ensures, body .0, c .before .before .piece .ensures),
+      rw (a .1, join-length) (omega (arith, body .1)),
+    )
 
 returns-2 : tie.Need-returns-2
 unfolding sentLine
@@ -25,4 +27,5 @@ returns-3 c = rw (c .enum-told2 .given .1) (sym (put-nil _), omega arith)
 pub sent-line-spec : {M : Type 1} → statement M
 sent-line-spec =
     tie.close
-    (tie.spec (search needs) (search needs) (search needs) (search needs) (search needs) (search needs) (search needs) returns returns-2 returns-3)
+    (tie.spec (search needs) (search needs) (search needs) (search needs) (search needs) (search needs) (search needs)
+    returns returns-2 returns-3)

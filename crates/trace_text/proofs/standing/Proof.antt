@@ -14,4 +14,5 @@ unfolding standingText
 returns-2 c = rw (c .before .before .standing .given .1) (c .outcome .ensures)
 
 pub standing-spec : {M : Type 1} → statement M
-standing-spec = tie.close (tie.spec (search needs) (search needs) (search needs) (search needs) (search needs) returns returns-2)
+standing-spec =
+    tie.close (tie.spec (search needs) (search needs) (search needs) (search needs) (search needs) returns returns-2)

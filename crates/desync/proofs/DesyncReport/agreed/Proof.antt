@@ -10,7 +10,16 @@ unfolding agreedText
 returns c =
     let rules = c .before .before in
     let content = rules .before .before in
-    rw (put-join, c .number .ensures, rules .digest3 .ensures, content .digest2 .ensures, content .before .before .digest .ensures)
+    rw (
+      put-join,
+      c .number .ensures,
+      rules .digest3 .ensures,
+      content .digest2 .ensures,
+      content .before .before .digest .ensures,
+    )
 
 pub agreed-spec : {M : Type 1} → statement M
-agreed-spec = tie.close (tie.spec (search needs) (search needs) (search needs) (search needs) (search needs) (search needs) (search needs) (search needs) returns)
+agreed-spec =
+    tie.close
+    (tie.spec (search needs) (search needs) (search needs) (search needs) (search needs) (search needs) (search needs)
+    (search needs) returns)

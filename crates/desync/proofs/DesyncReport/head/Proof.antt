@@ -12,4 +12,7 @@ returns c =
     rw (put-join, c .number3 .ensures, local .number2 .ensures, local .before .before .before .number .ensures)
 
 pub head-spec : {M : Type 1} → statement M
-head-spec = tie.close (tie.spec (search needs) (search needs) (search needs) (search needs) (search needs) (search needs) (search needs) (search needs) returns)
+head-spec =
+    tie.close
+    (tie.spec (search needs) (search needs) (search needs) (search needs) (search needs) (search needs) (search needs)
+    (search needs) returns)

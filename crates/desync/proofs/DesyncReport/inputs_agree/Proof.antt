@@ -11,7 +11,8 @@ returns : tie.Need-returns
 unfolding inputsAgree
 returns c =
     let u = c .before in
-    rw (← u .before .others .ensures) (c .is-empty .ensures ∙ ap (isEmpty seats) (u .unlike .ensures) ∙ empty-set seats _)
+    rw (← u .before .others .ensures)
+    (c .is-empty .ensures ∙ ap (isEmpty seats) (u .unlike .ensures) ∙ empty-set seats _)
 
 pub inputs-agree-spec : {M : Type 1} → statement M
 inputs-agree-spec = tie.close (tie.spec (search needs) (search needs) (search needs) returns)

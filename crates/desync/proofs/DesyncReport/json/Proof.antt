@@ -1,4 +1,5 @@
--- `desync::DesyncReport::json` meets its contract: six texts, and the types of the numbers say that they fit. Assumes nothing.
+-- `desync::DesyncReport::json` meets its contract: six texts, and the types of the numbers say that they fit. Assumes
+-- nothing.
 use mathlib.Core.Path.{_≡_, ap, _∙_}
 use borrow.Author.Needs.{needs}
 use Rattle.text.specs.Text.{freshText, put}
@@ -30,7 +31,8 @@ sized c =
       };
     }
 
-written : (c : tie.After-counters) → c .counters .result ≡ put freshText (reportText (c .before .before .before .before .before .before .before .args .self))
+written : (c : tie.After-counters) → c .counters .result
+    ≡ put freshText (reportText (c .before .before .before .before .before .before .before .args .self))
 unfolding reportText
 written c =
     let own = c .before .before .before in
@@ -49,4 +51,7 @@ returns : tie.Need-returns
 returns c = (written c, report-length _ (sized c))
 
 pub json-spec : {M : Type 1} → statement M
-json-spec = tie.close (tie.spec (search needs) (search needs) (search needs) (search needs) (search needs) (search needs) (search needs) returns)
+json-spec =
+    tie.close
+    (tie.spec (search needs) (search needs) (search needs) (search needs) (search needs) (search needs) (search needs)
+    returns)

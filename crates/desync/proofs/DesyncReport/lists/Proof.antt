@@ -19,4 +19,7 @@ returns c =
     )
 
 pub lists-spec : {M : Type 1} → statement M
-lists-spec = tie.close (tie.spec (search needs) (search needs) (search needs) (search needs) (search needs) (search needs) (search needs) returns)
+lists-spec =
+    tie.close
+    (tie.spec (search needs) (search needs) (search needs) (search needs) (search needs) (search needs) (search needs)
+    returns)

@@ -14,4 +14,6 @@ returns c =
     )
 
 pub own-spec : {M : Type 1} → statement M
-own-spec = tie.close (tie.spec (search needs) (search needs) (search needs) (search needs) (search needs) (search needs) returns)
+own-spec =
+    tie.close
+    (tie.spec (search needs) (search needs) (search needs) (search needs) (search needs) (search needs) returns)

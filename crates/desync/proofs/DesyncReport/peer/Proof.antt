@@ -11,7 +11,17 @@ returns c =
     let input = c .before .before in
     let state = input .before .before in
     let seat = state .before .before in
-    rw (put-join, c .piece .ensures, input .seat-digest2 .ensures, state .seat-digest .ensures, seat .number .ensures, seat .before .before .comma .ensures)
+    rw (
+      put-join,
+      c .piece .ensures,
+      input .seat-digest2 .ensures,
+      state .seat-digest .ensures,
+      seat .number .ensures,
+      seat .before .before .comma .ensures,
+    )
 
 pub peer-spec : {M : Type 1} → statement M
-peer-spec = tie.close (tie.spec (search needs) (search needs) (search needs) (search needs) (search needs) (search needs) (search needs) (search needs) (search needs) returns)
+peer-spec =
+    tie.close
+    (tie.spec (search needs) (search needs) (search needs) (search needs) (search needs) (search needs) (search needs)
+    (search needs) (search needs) returns)

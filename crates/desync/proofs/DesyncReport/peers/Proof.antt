@@ -31,4 +31,6 @@ returns c =
     rw all at (c .before .loop .inv .1)
 
 pub peers-spec : {M : Type 1} → statement M
-peers-spec = tie.close (tie.spec Inv-loop μ-loop (search needs) loop-holds (search needs) (search needs) (search needs) loop-again returns)
+peers-spec =
+    tie.close
+    (tie.spec Inv-loop μ-loop (search needs) loop-holds (search needs) (search needs) (search needs) loop-again returns)

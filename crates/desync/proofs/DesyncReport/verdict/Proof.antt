@@ -9,7 +9,15 @@ returns : tie.Need-returns
 unfolding verdictText
 returns c =
     let agree = c .before .before .before in
-    rw (put-join, c .flag2 .ensures, c .before .witnessed .ensures, agree .flag .ensures, agree .before .inputs-agree .ensures)
+    rw (
+      put-join,
+      c .flag2 .ensures,
+      c .before .witnessed .ensures,
+      agree .flag .ensures,
+      agree .before .inputs-agree .ensures,
+    )
 
 pub verdict-spec : {M : Type 1} → statement M
-verdict-spec = tie.close (tie.spec (search needs) (search needs) (search needs) (search needs) (search needs) (search needs) returns)
+verdict-spec =
+    tie.close
+    (tie.spec (search needs) (search needs) (search needs) (search needs) (search needs) (search needs) returns)

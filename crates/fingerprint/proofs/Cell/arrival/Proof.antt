@@ -21,7 +21,12 @@ unfolding arrivalBy if_then_else_
 returns-3 c =
     let two = c .before .before .before in
     let one = two .before .before .before in
-    rw (one .before .before .before .before .self .given .1, eq-eqb _ _ (one .if1 .left), eq-eqb _ _ (two .if2 .left), ne-eqb _ _ (c .if3 .taken))
+    rw (
+      one .before .before .before .before .self .given .1,
+      eq-eqb _ _ (one .if1 .left),
+      eq-eqb _ _ (two .if2 .left),
+      ne-eqb _ _ (c .if3 .taken),
+    )
 
 returns-4 : tie.Need-returns-4
 unfolding arrivalBy
@@ -32,7 +37,12 @@ unfolding arrivalBy if_then_else_
 returns-5 c =
     let two = c .before .before .before in
     let one = two .before .before .before in
-    rw (one .before .before .before .before .self .given .1, eq-eqb _ _ (one .if1 .left), eq-eqb _ _ (two .if2 .left), eq-eqb _ _ (c .if3 .left))
+    rw (
+      one .before .before .before .before .self .given .1,
+      eq-eqb _ _ (one .if1 .left),
+      eq-eqb _ _ (two .if2 .left),
+      eq-eqb _ _ (c .if3 .left),
+    )
 
 pub arrival-spec : {M : Type 1} → statement M
 arrival-spec = tie.close (tie.spec (search needs) (search needs) returns returns-2 returns-3 returns-4 returns-5)

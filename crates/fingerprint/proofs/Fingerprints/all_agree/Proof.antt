@@ -1,4 +1,5 @@
--- `fingerprint::Fingerprints::all_agree` meets its contract: the loop's invariant says that no remote below `seat` denies the print. Assumes nothing.
+-- `fingerprint::Fingerprints::all_agree` meets its contract: the loop's invariant says that no remote below `seat`
+-- denies the print. Assumes nothing.
 use mathlib.Core.Path.{_≡_, sym, _∙_}
 use mathlib.Core.Bool.{Bool, true, false, not, _||_, or-true}
 use mathlib.Core.Logic.{⊎-elim}
@@ -34,7 +35,8 @@ unfolding allAgree
 returns c =
     let at = c .before .before .before .before .before .before in
     let a = at .before .args in
-    let asked : has (a .remotes .0) (at .loop .seat) ≡ true = sym (c .before .before .before .before .contains .ensures) ∙ c .before .before .before .if1 .taken in
+    let asked : has (a .remotes .0) (at .loop .seat) ≡ true =
+    sym (c .before .before .before .before .contains .ensures) ∙ c .before .before .before .if1 .taken in
     let denied : agrees (a .mine .state) (remoteFor (a .self) (at .loop .seat) (a .mine .tick)) ≡ false =
     rw (← c .before .before .remote-for .ensures) (sym (c .before .agrees .ensures) ∙ not-true _ (c .if2 .taken)) in
     sym (every-not seats _ (at .loop .seat) (omega arith) (rw (asked, denied)))
@@ -43,8 +45,8 @@ loop-again : tie.Need-loop-again Inv-loop μ-loop
 loop-again c = (
   omega arith,
   below-more _ _ (c .before .before .before .loop .inv .1)
-      (⊎-elim (λ w. rw (← w .1 .ensures, sym (w .2 .ensures) ∙ not-false _ (w .3 .left), or-true)) (λ w. rw (sym (c .before .contains .ensures) ∙ w .left))
-      (c .if1 .came)),
+      (⊎-elim (λ w. rw (← w .1 .ensures, sym (w .2 .ensures) ∙ not-false _ (w .3 .left), or-true))
+      (λ w. rw (sym (c .before .contains .ensures) ∙ w .left)) (c .if1 .came)),
 )
 
 returns-2 : tie.Need-returns-2 Inv-loop μ-loop
@@ -54,5 +56,5 @@ returns-2 c = sym (every-all seats _ (λ k l. c .before .loop .inv .1 k (omega a
 pub all-agree-spec : {M : Type 1} → statement M
 all-agree-spec =
     tie.close
-    (tie.spec Inv-loop μ-loop loop-holds (λ c κs. search needs) (λ c κs. search needs) (λ c κs. search needs) returns (λ c. omega arith) (λ c. omega arith)
-    loop-again returns-2)
+    (tie.spec Inv-loop μ-loop loop-holds (λ c κs. search needs) (λ c κs. search needs) (λ c κs. search needs) returns
+    (λ c. omega arith) (λ c. omega arith) loop-again returns-2)

@@ -1,4 +1,5 @@
--- `fingerprint::Fingerprints::at` meets its contract: past the end there is nothing, and else the mark decides. Assumes nothing.
+-- `fingerprint::Fingerprints::at` meets its contract: past the end there is nothing, and else the mark decides. Assumes
+-- nothing.
 use mathlib.Core.Path.{sym}
 use native.Mathlib.Omega.{arith}
 use borrow.Author.Needs.{needs}
@@ -22,4 +23,5 @@ returns-3 c = rw (c .if2 .left)
 pub at-spec : {M : Type 1} → statement M
 at-spec =
     tie.close
-    (tie.spec returns (λ c. omega arith) (λ c. omega arith) (λ c. omega arith) (λ c. omega arith) (λ c. omega arith) (λ c. omega arith) (λ c. omega arith) returns-2 returns-3)
+    (tie.spec returns (λ c. omega arith) (λ c. omega arith) (λ c. omega arith) (λ c. omega arith) (λ c. omega arith)
+    (λ c. omega arith) (λ c. omega arith) returns-2 returns-3)

@@ -1,4 +1,5 @@
--- `fingerprint::Fingerprints::last_agreed` meets its contract: the loop's invariant says that `best` is the highest that the cells so far offer. Assumes nothing.
+-- `fingerprint::Fingerprints::last_agreed` meets its contract: the loop's invariant says that `best` is the highest
+-- that the cells so far offer. Assumes nothing.
 use mathlib.Core.Path.{_≡_, refl, _∙_}
 use Prim.Native.Nat.{_≤_, _-_}
 use native.Mathlib.Numerals.{add-one}
@@ -32,4 +33,5 @@ returns c =
 pub last-agreed-spec : {M : Type 1} → statement M
 last-agreed-spec =
     tie.close
-    (tie.spec Inv-loop μ-loop loop-holds (λ c κs. search needs) (λ c κs. search needs) (λ c. omega arith) (λ c. omega arith) loop-again returns)
+    (tie.spec Inv-loop μ-loop loop-holds (λ c κs. search needs) (λ c κs. search needs) (λ c. omega arith)
+    (λ c. omega arith) loop-again returns)

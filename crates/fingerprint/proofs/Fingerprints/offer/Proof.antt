@@ -18,7 +18,12 @@ unfolding offer if_then_else_
 returns-2 c =
     let one = c .before .before in
     let found = one .before .before .before in
-    rw (← found .before .before .at .ensures, found .own .given .1, lt-ltb _ _ (one .if1 .left), sym (c .before .all-agree .ensures) ∙ c .if2 .taken)
+    rw (
+      ← found .before .before .at .ensures,
+      found .own .given .1,
+      lt-ltb _ _ (one .if1 .left),
+      sym (c .before .all-agree .ensures) ∙ c .if2 .taken,
+    )
 
 returns-3 : tie.Need-returns-3
 unfolding offer
@@ -29,7 +34,12 @@ unfolding offer if_then_else_
 returns-4 c =
     let one = c .before .before in
     let found = one .before .before .before in
-    rw (← found .before .before .at .ensures, found .own .given .1, lt-ltb _ _ (one .if1 .left), sym (c .before .all-agree .ensures) ∙ c .if2 .left)
+    rw (
+      ← found .before .before .at .ensures,
+      found .own .given .1,
+      lt-ltb _ _ (one .if1 .left),
+      sym (c .before .all-agree .ensures) ∙ c .if2 .left,
+    )
 
 pub offer-spec : {M : Type 1} → statement M
 offer-spec =

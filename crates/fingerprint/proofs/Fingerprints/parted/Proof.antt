@@ -9,7 +9,8 @@ use Rattle.fingerprint.proofs.Fingerprints.parted.Tie as tie
 
 returns : tie.Need-returns
 unfolding parted partedBy ownFor
-returns c = rw (← c .before .before .before .own .ensures, ← c .before .before .of-tick .ensures, c .enum-told .given .1)
+returns c =
+    rw (← c .before .before .before .own .ensures, ← c .before .before .of-tick .ensures, c .enum-told .given .1)
 
 returns-2 : tie.Need-returns-2
 unfolding parted partedBy ownFor
@@ -17,7 +18,13 @@ returns-2 c =
     let found = c .before .before in
     let asked = found .before .before in
     let held = ofTick-holds _ _ _ (sym (asked .of-tick .ensures) ∙ found .cell .given .1) in
-    rw (← asked .before .own .ensures, ← asked .of-tick .ensures, found .cell .given .1, ← held .1, c .all-agree .ensures)
+    rw (
+      ← asked .before .own .ensures,
+      ← asked .of-tick .ensures,
+      found .cell .given .1,
+      ← held .1,
+      c .all-agree .ensures,
+    )
 
 pub parted-spec : {M : Type 1} → statement M
 parted-spec =

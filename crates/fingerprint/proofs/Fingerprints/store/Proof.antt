@@ -17,4 +17,5 @@ returns-2 c = refl
 pub store-spec : {M : Type 1} → statement M
 store-spec =
     tie.close
-    (tie.spec returns (λ c. omega arith) (λ c. omega arith) (λ c. omega arith) (λ c. omega arith) (λ c. omega arith) (λ c. omega arith) (λ c. omega arith) returns-2)
+    (tie.spec returns (λ c. omega arith) (λ c. omega arith) (λ c. omega arith) (λ c. omega arith) (λ c. omega arith)
+    (λ c. omega arith) (λ c. omega arith) returns-2)

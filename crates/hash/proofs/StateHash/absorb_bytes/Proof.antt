@@ -1,5 +1,5 @@
--- `hash::StateHash::absorb_bytes` meets its contract. The invariant: absorbing what is left gives what absorbing all of it
--- gives at the start. Assumes nothing.
+-- `hash::StateHash::absorb_bytes` meets its contract. The invariant: absorbing what is left gives what absorbing all of
+-- it gives at the start. Assumes nothing.
 use mathlib.Core.Path.{_≡_, sym, _∙_}
 use Prim.Native.Nat.{_≤_, _-_}
 use borrow.Author.Needs.{needs}
@@ -26,4 +26,5 @@ returns c = sym (fnv-end (c .before .loop .h .value) _ (c .before .loop .i) (sea
 pub absorb-bytes-spec : {M : Type 1} → statement M
 absorb-bytes-spec =
     tie.close
-    (tie.spec Inv-loop μ-loop (search needs) (search needs) (search needs) (search needs) (search needs) loop-again returns)
+    (tie.spec Inv-loop μ-loop (search needs) (search needs) (search needs) (search needs) (search needs) loop-again
+    returns)

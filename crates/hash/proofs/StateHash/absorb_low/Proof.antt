@@ -1,5 +1,5 @@
--- `hash::StateHash::absorb_low` meets its contract. The invariant: absorbing what is left gives what absorbing all of it
--- gives at the start. Assumes nothing.
+-- `hash::StateHash::absorb_low` meets its contract. The invariant: absorbing what is left gives what absorbing all of
+-- it gives at the start. Assumes nothing.
 use mathlib.Core.Path.{_≡_, sym, _∙_}
 use borrow.Author.Needs.{needs}
 use Rattle.hash.specs.Fnv.{fnv, leBytes}
@@ -19,9 +19,12 @@ loop-again c =
     rw (c .absorb-byte .ensures) (fnv-low (at .h .value) (at .v) (at .n) (search needs) ∙ at .inv)
 
 returns : tie.Need-returns Inv-loop μ-loop
-returns c = sym (fnv-none (c .before .loop .h .value) (c .before .loop .v) (c .before .loop .n) (search needs)) ∙ c .before .loop .inv
+returns c =
+    sym (fnv-none (c .before .loop .h .value) (c .before .loop .v) (c .before .loop .n) (search needs))
+    ∙ c .before .loop .inv
 
 pub absorb-low-spec : {M : Type 1} → statement M
 absorb-low-spec =
     tie.close
-    (tie.spec Inv-loop μ-loop (search needs) (search needs) (search needs) (search needs) (search needs) loop-again returns)
+    (tie.spec Inv-loop μ-loop (search needs) (search needs) (search needs) (search needs) (search needs) loop-again
+    returns)

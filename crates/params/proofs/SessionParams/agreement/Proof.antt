@@ -1,4 +1,5 @@
--- `params::SessionParams::agreement` meets its contract: absorbed one after the other, the numbers are their bytes joined. Assumes nothing.
+-- `params::SessionParams::agreement` meets its contract: absorbed one after the other, the numbers are their bytes
+-- joined. Assumes nothing.
 use borrow.Author.Needs.{needs}
 use Rattle.hash.proofs.Laws.{fnv-append}
 use Rattle.params.specs.Params.{agreementOf, agreementBytes}
@@ -27,5 +28,5 @@ returns c =
 pub agreement-spec : {M : Type 1} → statement M
 agreement-spec =
     tie.close
-    (tie.spec (search needs) (search needs) (search needs) (search needs) (search needs) (search needs) (search needs) (search needs)
-    (search needs) (search needs) (search needs) (search needs) (search needs) (search needs) returns)
+    (tie.spec (search needs) (search needs) (search needs) (search needs) (search needs) (search needs) (search needs)
+    (search needs) (search needs) (search needs) (search needs) (search needs) (search needs) (search needs) returns)

@@ -39,7 +39,11 @@ returns-2 c = rw (count-in (c .before .before), le-ltb _ _ (c .if2 .taken))
 returns-3 : tie.Need-returns-3
 unfolding validity if_then_else_
 returns-3 c =
-    rw (count-in (c .before .before .before .before), lt-ltb _ _ (c .before .before .if2 .left), sym (c .before .is-outside2 .ensures) ∙ c .if3 .taken)
+    rw (
+      count-in (c .before .before .before .before),
+      lt-ltb _ _ (c .before .before .if2 .left),
+      sym (c .before .is-outside2 .ensures) ∙ c .if3 .taken,
+    )
 
 returns-4 : tie.Need-returns-4
 unfolding validity if_then_else_
@@ -58,14 +62,28 @@ unfolding validity if_then_else_
 returns-6 c =
     let at = c .before .before .before .before in
     let h = passed (at .before .before) in
-    rw (h .count, h .local, h .width, le-ltb _ _ (at .if4 .left), ne-eqb _ _ (c .before .before .if5 .left), eq-eqb _ _ (c .if6 .taken))
+    rw (
+      h .count,
+      h .local,
+      h .width,
+      le-ltb _ _ (at .if4 .left),
+      ne-eqb _ _ (c .before .before .if5 .left),
+      eq-eqb _ _ (c .if6 .taken),
+    )
 
 returns-7 : tie.Need-returns-7
 unfolding validity if_then_else_
 returns-7 c =
     let at = c .before .before .before .before in
     let h = passed (at .before .before) in
-    rw (h .count, h .local, h .width, le-ltb _ _ (at .if4 .left), ne-eqb _ _ (c .before .before .if5 .left), ne-eqb _ _ (c .if6 .left))
+    rw (
+      h .count,
+      h .local,
+      h .width,
+      le-ltb _ _ (at .if4 .left),
+      ne-eqb _ _ (c .before .before .if5 .left),
+      ne-eqb _ _ (c .if6 .left),
+    )
 
 pub validate-spec : {M : Type 1} → statement M
 validate-spec =

@@ -1,4 +1,5 @@
--- `session::Session::advance` meets its contract: each return is a case of the definition, by the step, then by the outcome. Assumes nothing.
+-- `session::Session::advance` meets its contract: each return is a case of the definition, by the step, then by the
+-- outcome. Assumes nothing.
 use Prim.Native.Nat.{ℕ}
 use mathlib.Core.Path.{_≡_, sym, ap, _∙_}
 use mathlib.Core.Bool.{false}
@@ -23,9 +24,12 @@ unfolding advance
 stepwise c = if-false _ _ (good c)
 
 -- past the outstanding step, by the outcome
-free : (c : tie.After-enum-told2) → let s = c .before .before .before .before .args .self in advance s ≡ advanceBy s (s .outcome)
+free : (c : tie.After-enum-told2) → let s = c .before .before .before .before .args .self in
+    advance s ≡ advanceBy s (s .outcome)
 unfolding advanceFrom
-free c = stepwise (c .before .before) ∙ ap (advanceFrom (c .before .before .before .before .args .self)) (c .enum-told2 .given .1)
+free c =
+    stepwise (c .before .before) ∙ ap (advanceFrom (c .before .before .before .before .args .self))
+    (c .enum-told2 .given .1)
 
 -- of the outcomes only a desync ends at once
 at-desync : (s : Session) (o : Outcome) (tick : ℕ) → o ≡ Desynced tick → advanceBy s (Over o) ≡ idle s (Ended o)
@@ -45,7 +49,9 @@ over : (c : tie.After-known-told) →
     let s = c .before .before .before .before .before .before .before .args .self in
     advance s ≡ advanceBy s (Over (c .before .standing .given .0 .0))
 over c =
-    free (c .before .before .before) ∙ ap (advanceBy (c .before .before .before .before .before .before .before .args .self)) (c .before .standing .given .1)
+    free (c .before .before .before)
+    ∙ ap (advanceBy (c .before .before .before .before .before .before .before .args .self))
+    (c .before .standing .given .1)
 
 play-on-requires : tie.Need-play-on-requires
 play-on-requires c κs = good (c .before .before .before .before)
@@ -64,25 +70,32 @@ returns-2 : tie.Need-returns-2
 unfolding advanceFrom
 returns-2 c =
     let one = c .before .before .before in
-    c .idle2 .ensures ∙ sym (stepwise one ∙ ap (advanceFrom (one .before .before .args .self)) (c .before .enum-told .given .1))
+    c .idle2 .ensures
+    ∙ sym (stepwise one ∙ ap (advanceFrom (one .before .before .args .self)) (c .before .enum-told .given .1))
 
 returns-3 : tie.Need-returns-3
 unfolding advanceBy
 returns-3 c =
     let at = c .before .before .before in
-    c .play-on .ensures ∙ sym (free at ∙ ap (advanceBy (at .before .before .before .before .args .self)) (c .before .enum-told3 .given .1))
+    c .play-on .ensures ∙ sym
+    (free at ∙ ap (advanceBy (at .before .before .before .before .args .self)) (c .before .enum-told3 .given .1))
 
 returns-4 : tie.Need-returns-4
-returns-4 c = c .idle3 .ensures ∙ sym (over (c .before .before .before) ∙ at-desync _ _ _ (c .before .enum-told4 .given .1))
+returns-4 c =
+    c .idle3 .ensures ∙ sym (over (c .before .before .before) ∙ at-desync _ _ _ (c .before .enum-told4 .given .1))
 
 returns-5 : tie.Need-returns-5
-returns-5 c = c .drain .ensures ∙ sym (over (c .before .before .before) ∙ at-peer-left _ _ _ _ (c .before .enum-told5 .given .1))
+returns-5 c =
+    c .drain .ensures ∙ sym (over (c .before .before .before) ∙ at-peer-left _ _ _ _ (c .before .enum-told5 .given .1))
 
 returns-6 : tie.Need-returns-6
-returns-6 c = c .drain2 .ensures ∙ sym (over (c .before .before .before) ∙ at-left-locally _ _ _ (c .before .enum-told6 .given .1))
+returns-6 c =
+    c .drain2 .ensures
+    ∙ sym (over (c .before .before .before) ∙ at-left-locally _ _ _ (c .before .enum-told6 .given .1))
 
 pub advance-spec : {M : Type 1} → statement M
 advance-spec =
     tie.close
-    (tie.spec (search needs) (search needs) returns (search needs) (search needs) returns-2 (search needs) (search needs) (search needs) play-on-requires returns-3
-    (search needs) (search needs) (search needs) drain-requires (search needs) drain-requires-2 returns-4 returns-5 returns-6)
+    (tie.spec (search needs) (search needs) returns (search needs) (search needs) returns-2 (search needs)
+    (search needs) (search needs) play-on-requires returns-3 (search needs) (search needs) (search needs) drain-requires
+    (search needs) drain-requires-2 returns-4 returns-5 returns-6)

@@ -31,7 +31,12 @@ unfolding commit commitFrom if_then_else_
 returns-4 c =
     let two = c .before .before in
     let out = two .before .before in
-    rw (good (out .before .before), out .outstanding .given .1, eq-eqb _ _ (two .if2 .left), sym (c .before .mismatches .ensures) ∙ c .if3 .taken)
+    rw (
+      good (out .before .before),
+      out .outstanding .given .1,
+      eq-eqb _ _ (two .if2 .left),
+      sym (c .before .mismatches .ensures) ∙ c .if3 .taken,
+    )
 
 returns-5 : tie.Need-returns-5
 unfolding commit commitFrom if_then_else_
@@ -52,4 +57,5 @@ returns-5 c =
 pub commit-spec : {M : Type 1} → statement M
 commit-spec =
     tie.close
-    (tie.spec (search needs) returns (search needs) (search needs) returns-2 returns-3 (search needs) returns-4 (search needs) (search needs) returns-5)
+    (tie.spec (search needs) returns (search needs) (search needs) returns-2 returns-3 (search needs) returns-4
+    (search needs) (search needs) returns-5)

@@ -8,7 +8,8 @@ use Rattle.session.specs.Step.{judge}
 use Rattle.session.proofs.Session.judge.Statement.{statement}
 use Rattle.session.proofs.Session.judge.Tie as tie
 
-tested : (c : tie.After-parted) → let a = c .before .before .args in parted (a .self .prints) (remotesOf (a .self .params)) (a .tick) ≡ c .parted .result
+tested : (c : tie.After-parted) → let a = c .before .before .args in
+    parted (a .self .prints) (remotesOf (a .self .params)) (a .tick) ≡ c .parted .result
 tested c = cc
 
 returns : tie.Need-returns

@@ -26,4 +26,5 @@ returns-3 c =
     rw (good (left .before .before .before), left .before .enum-told .given .1, left .saturating-sub .ensures)
 
 pub leave-spec : {M : Type 1} → statement M
-leave-spec = tie.close (tie.spec (search needs) returns (search needs) returns-2 (search needs) (search needs) returns-3)
+leave-spec =
+    tie.close (tie.spec (search needs) returns (search needs) returns-2 (search needs) (search needs) returns-3)

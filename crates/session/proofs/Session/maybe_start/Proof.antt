@@ -11,7 +11,8 @@ use Rattle.session.proofs.Session.maybe_start.Statement.{statement}
 use Rattle.session.proofs.Session.maybe_start.Tie as tie
 
 -- what the test of the Hellos is
-hellos-in : (c : tie.After-subset) → let s = c .before .before .args .self in isSubset seats (rosterOf (s .params)) (s .hellos) ≡ c .subset .result
+hellos-in : (c : tie.After-subset) → let s = c .before .before .args .self in
+    isSubset seats (rosterOf (s .params)) (s .hellos) ≡ c .subset .result
 hellos-in c = cc
 
 returns : tie.Need-returns

@@ -12,7 +12,8 @@ take-step-requires : tie.Need-take-step-requires
 take-step-requires c κs = c .before .before .before .before .pre
 
 -- past the test of playing
-playing : (c : tie.Else1) → let s = c .before .before .args .self in playOn s ≡ if everySeatHeld s then takeStep s else stall s
+playing : (c : tie.Else1) → let s = c .before .before .args .self in
+    playOn s ≡ if everySeatHeld s then takeStep s else stall s
 unfolding playOn
 playing c = if-false _ _ (c .if1 .left)
 
@@ -23,12 +24,15 @@ returns c = c .idle .ensures ∙ sym (if-true _ _ (c .before .if1 .taken))
 returns-2 : tie.Need-returns-2
 returns-2 c =
     c .take-step .ensures
-    ∙ sym (playing (c .before .before .before) ∙ if-true _ _ (sym (c .before .before .every-seat-held .ensures) ∙ c .before .if2 .taken))
+    ∙ sym (playing (c .before .before .before)
+    ∙ if-true _ _ (sym (c .before .before .every-seat-held .ensures) ∙ c .before .if2 .taken))
 
 returns-3 : tie.Need-returns-3
 returns-3 c =
     c .stall .ensures
-    ∙ sym (playing (c .before .before .before) ∙ if-false _ _ (sym (c .before .before .every-seat-held .ensures) ∙ c .before .if2 .left))
+    ∙ sym (playing (c .before .before .before)
+    ∙ if-false _ _ (sym (c .before .before .every-seat-held .ensures) ∙ c .before .if2 .left))
 
 pub play-on-spec : {M : Type 1} → statement M
-play-on-spec = tie.close (tie.spec (search needs) returns (search needs) take-step-requires returns-2 (search needs) returns-3)
+play-on-spec =
+    tie.close (tie.spec (search needs) returns (search needs) take-step-requires returns-2 (search needs) returns-3)

@@ -19,4 +19,5 @@ returns c =
 
 pub stall-spec : {M : Type 1} → statement M
 stall-spec =
-    tie.close (tie.spec (search needs) (search needs) (search needs) (search needs) (search needs) (search needs) returns)
+    tie.close
+    (tie.spec (search needs) (search needs) (search needs) (search needs) (search needs) (search needs) returns)

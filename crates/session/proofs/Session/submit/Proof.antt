@@ -14,7 +14,8 @@ good : (c : tie.Else1) → badState (c .before .before .before .args .self .para
 good c = sym (c .before .bad-state .ensures) ∙ c .if1 .left
 
 -- past the two tests of every call, what is left
-open-still : (c : tie.After-enum-told) → let a = c .before .before .before .before .before .args in submit (a .self) (now (a .input)) ≡ submitOpen (a .self) (now (a .input))
+open-still : (c : tie.After-enum-told) → let a = c .before .before .before .before .before .args in
+    submit (a .self) (now (a .input)) ≡ submitOpen (a .self) (now (a .input))
 unfolding submit submitBy if_then_else_
 open-still c = rw (good (c .before .before), c .enum-told .given .1)
 
@@ -32,7 +33,13 @@ returns-3 c = rw (open-still (c .before), ne-eqb _ _ (c .if2 .taken))
 
 returns-4 : tie.Need-returns-4
 unfolding submitOpen if_then_else_
-returns-4 c = rw (open-still (c .before .before .before), eq-eqb _ _ (c .before .before .if2 .left), ← c .before .saturating-sub .ensures, le-leb _ _ (c .if3 .taken))
+returns-4 c =
+    rw (
+      open-still (c .before .before .before),
+      eq-eqb _ _ (c .before .before .if2 .left),
+      ← c .before .saturating-sub .ensures,
+      le-leb _ _ (c .if3 .taken),
+    )
 
 returns-5 : tie.Need-returns-5
 unfolding submitOpen press if_then_else_
@@ -51,5 +58,5 @@ returns-5 c =
 pub submit-spec : {M : Type 1} → statement M
 submit-spec =
     tie.close
-    (tie.spec (search needs) returns (search needs) returns-2 (search needs) (search needs) returns-3 (search needs) returns-4 (search needs) (search needs)
-    (search needs) returns-5)
+    (tie.spec (search needs) returns (search needs) returns-2 (search needs) (search needs) returns-3 (search needs)
+    returns-4 (search needs) (search needs) (search needs) returns-5)

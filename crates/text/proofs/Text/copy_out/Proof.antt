@@ -1,4 +1,5 @@
--- `text::Text::copy_out` meets its contract: the loop has put the front of the text over the front of the buffer. Assumes nothing.
+-- `text::Text::copy_out` meets its contract: the loop has put the front of the text over the front of the buffer.
+-- Assumes nothing.
 use Prim.Native.Nat.{_≤_, _-_}
 use mathlib.Core.Path.{_≡_, refl, sym, _∙_}
 use mathlib.Core.List.{_++_}
@@ -13,7 +14,8 @@ use Rattle.text.proofs.Text.copy_out.Tie as tie
 
 abbrev Inv-loop : tie.InvT-loop
 Inv-loop out₀ bytes n i₀ out i =
-    (i ≤ n) × (n ≤ textLimit) × (n ≤ length out₀) × (length bytes ≡ textLimit) × (length out ≡ length out₀) × (out ≡ take i bytes ++ drop i out₀)
+    (i ≤ n) × (n ≤ textLimit) × (n ≤ length out₀) × (length bytes ≡ textLimit) × (length out ≡ length out₀)
+    × (out ≡ take i bytes ++ drop i out₀)
 
 abbrev μ-loop : tie.MeasureT-loop
 μ-loop out₀ bytes n i₀ out i = n - i
@@ -49,11 +51,12 @@ returns-2 c =
     let sized = c .before .before .before .size in
     let t = c .before .before .before .before .before .before .args .self in
     let all : l .i ≡ sized .result = omega arith in
-    let front : take (sized .result) (t .bytes) ≡ textOf t = rw (sized .ensures) (take-length-take (t .len) (t .bytes)) in
+    let front : take (sized .result) (t .bytes) ≡ textOf t =
+    rw (sized .ensures) (take-length-take (t .len) (t .bytes)) in
     with-room _ _ (sized .result) (l .out) (sym (sized .ensures)) (l .inv .2) (l .inv .5 ∙ rw (all, front))
 
 pub copy-out-spec : {M : Type 1} → statement M
 copy-out-spec =
     tie.close
-    (tie.spec Inv-loop μ-loop (search needs) returns loop-holds (search needs) (search needs) (search needs) (search needs) loop-again same-length
-    returns-2)
+    (tie.spec Inv-loop μ-loop (search needs) returns loop-holds (search needs) (search needs) (search needs)
+    (search needs) loop-again same-length returns-2)

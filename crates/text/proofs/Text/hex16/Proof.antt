@@ -35,4 +35,5 @@ returns c =
 pub hex16-spec : {M : Type 1} → statement M
 hex16-spec =
     tie.close
-    (tie.spec Inv-loop μ-loop loop-holds (search needs) (search needs) (search needs) (search needs) loop-again (search needs) (search needs) returns)
+    (tie.spec Inv-loop μ-loop loop-holds (search needs) (search needs) (search needs) (search needs) loop-again
+    (search needs) (search needs) returns)

@@ -31,13 +31,16 @@ high : (c : tie.Joined1 Inv-loop μ-loop)
 unfolding put putByte if_then_else_
 high c =
     let was = c .before .before .before .before .before .loop .self in
-    ⊎-elim (λ x. x .1 ∙ rw (lt-ltb (was .len) textLimit (x .0 .taken))) (λ x. x .1 ∙ rw (le-ltb (was .len) textLimit (x .0 .left))) (c .if1 .came)
+    ⊎-elim (λ x. x .1 ∙ rw (lt-ltb (was .len) textLimit (x .0 .taken)))
+    (λ x. x .1 ∙ rw (le-ltb (was .len) textLimit (x .0 .left))) (c .if1 .came)
 
-low : (c : tie.Joined2 Inv-loop μ-loop) → c .if2 .self ≡ put (c .before .before .if1 .self) (c .before .hex-digit2 .result ∷ [])
+low : (c : tie.Joined2 Inv-loop μ-loop)
+    → c .if2 .self ≡ put (c .before .before .if1 .self) (c .before .hex-digit2 .result ∷ [])
 unfolding put putByte if_then_else_
 low c =
     let was = c .before .before .if1 .self in
-    ⊎-elim (λ x. x .1 ∙ rw (lt-ltb (was .len) textLimit (x .0 .taken))) (λ x. x .1 ∙ rw (le-ltb (was .len) textLimit (x .0 .left))) (c .if2 .came)
+    ⊎-elim (λ x. x .1 ∙ rw (lt-ltb (was .len) textLimit (x .0 .taken)))
+    (λ x. x .1 ∙ rw (le-ltb (was .len) textLimit (x .0 .left))) (c .if2 .came)
 
 -- a turn writes two digits, the upper one first
 turn : (c : tie.Joined2 Inv-loop μ-loop)
@@ -46,7 +49,13 @@ turn : (c : tie.Joined2 Inv-loop μ-loop)
 unfolding hexDigits
 turn c =
     let one = c .before .before in
-    low c ∙ rw (put-two, high one, c .before .hex-digit2 .ensures, one .before .hex-digit .ensures, one .before .before .long .ensures)
+    low c ∙ rw (
+      put-two,
+      high one,
+      c .before .hex-digit2 .ensures,
+      one .before .hex-digit .ensures,
+      one .before .before .long .ensures,
+    )
 
 loop-again : tie.Need-loop-again Inv-loop μ-loop
 loop-again c =
@@ -62,5 +71,5 @@ returns c =
 pub hex-bytes-spec : {M : Type 1} → statement M
 hex-bytes-spec =
     tie.close
-    (tie.spec Inv-loop μ-loop loop-holds (search needs) (search needs) (search needs) (search needs) (search needs) (search needs) (search needs) (search needs)
-    (search needs) (search needs) loop-again returns)
+    (tie.spec Inv-loop μ-loop loop-holds (search needs) (search needs) (search needs) (search needs) (search needs)
+    (search needs) (search needs) (search needs) (search needs) (search needs) loop-again returns)

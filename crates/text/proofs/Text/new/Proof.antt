@@ -1,4 +1,5 @@
--- `text::Text::new` meets its contract. The definition stays shut elsewhere, so that no goal writes out 2,048 zeros. Assumes nothing.
+-- `text::Text::new` meets its contract. The definition stays shut elsewhere, so that no goal writes out 2,048 zeros.
+-- Assumes nothing.
 use mathlib.Core.Path.{refl}
 use Rattle.text.specs.Text.{freshText}
 use Rattle.text.proofs.Text.new.Statement.{statement}

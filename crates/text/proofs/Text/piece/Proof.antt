@@ -26,7 +26,8 @@ loop-holds c = (search needs, sym (put-nil _))
 
 -- a turn writes the next byte, where there is room for it
 turn : (c : tie.Joined1 Inv-loop μ-loop)
-    → c .if1 .self ≡ put (c .before .before .loop .self) (getD (c .before .before .before .args .s .now) (c .before .before .loop .i) 0 ∷ [])
+    → c .if1 .self ≡ put (c .before .before .loop .self)
+    (getD (c .before .before .before .args .s .now) (c .before .before .loop .i) 0 ∷ [])
 unfolding put putByte if_then_else_
 turn c =
     ⊎-elim
@@ -48,4 +49,5 @@ returns c =
 pub piece-spec : {M : Type 1} → statement M
 piece-spec =
     tie.close
-    (tie.spec Inv-loop μ-loop loop-holds (search needs) (search needs) (search needs) (search needs) (search needs) loop-again returns)
+    (tie.spec Inv-loop μ-loop loop-holds (search needs) (search needs) (search needs) (search needs) (search needs)
+    loop-again returns)

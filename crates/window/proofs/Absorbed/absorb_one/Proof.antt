@@ -21,8 +21,10 @@ decided : (c : tie.After-same) →
 decided c =
     let w = c .before .before .before .before .before .before in
     let a = w .before .before .before .before .before .args in
-    by-comparison (a .self) (a .pending) (a .seat) (a .tick) (now (a .bytes)) _ _ (c .before .before .before .before .before .frame-start .result) (now (c .before .stand-for .result))
-    (w .before .before .before .if1 .left) (w .before .before .if2 .left) (w .holds .ensures) (c .before .before .before .before .before .frame-start .ensures .0)
+    by-comparison (a .self) (a .pending) (a .seat) (a .tick) (now (a .bytes)) _ _
+    (c .before .before .before .before .before .frame-start .result) (now (c .before .stand-for .result))
+    (w .before .before .before .if1 .left) (w .before .before .if2 .left) (w .holds .ensures)
+    (c .before .before .before .before .before .frame-start .ensures .0)
     (c .before .stand-for .ensures) (c .same .ensures .0) (c .same .ensures .1)
 
 returns : tie.Need-returns
@@ -41,15 +43,26 @@ returns-4 : tie.Need-returns-4
 unfolding if_then_else_
 returns-4 c =
     let at = c .before .before .before in
-    rw (decided at, not-false (at .same .result) (c .before .before .if3 .left), c .before .if4 .taken, c .raise .ensures)
+    rw (
+      decided at,
+      not-false (at .same .result) (c .before .before .if3 .left),
+      c .before .if4 .taken,
+      c .raise .ensures,
+    )
 
 returns-5 : tie.Need-returns-5
 unfolding if_then_else_
 returns-5 c =
     let at = c .before .before .before in
-    rw (decided at, not-false (at .same .result) (c .before .before .if3 .left), c .before .if4 .left, c .write-frame .ensures)
+    rw (
+      decided at,
+      not-false (at .same .result) (c .before .before .if3 .left),
+      c .before .if4 .left,
+      c .write-frame .ensures,
+    )
 
 pub absorb-one-spec : {M : Type 1} → statement M
 absorb-one-spec =
     tie.close
-    (tie.spec returns returns-2 (search needs) (search needs) (search needs) (search needs) returns-3 (search needs) returns-4 (search needs) returns-5)
+    (tie.spec returns returns-2 (search needs) (search needs) (search needs) (search needs) returns-3 (search needs)
+    returns-4 (search needs) returns-5)

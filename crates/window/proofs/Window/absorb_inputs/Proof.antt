@@ -15,7 +15,8 @@ use Rattle.window.proofs.Window.absorb_inputs.Statement.{statement}
 use Rattle.window.proofs.Window.absorb_inputs.Tie as tie
 
 abbrev Inv-loop : tie.InvT-loop
-Inv-loop repeated pending seat run count first n a₀ i₀ a i = (i ≤ count) × (a ≡ absorbFirst a₀ pending seat first n run i)
+Inv-loop repeated pending seat run count first n a₀ i₀ a i =
+    (i ≤ count) × (a ≡ absorbFirst a₀ pending seat first n run i)
 
 abbrev μ-loop : tie.MeasureT-loop
 μ-loop repeated pending seat run count first n a₀ i₀ a i = count - i
@@ -30,10 +31,13 @@ room i count n h = rw (← suc-mul) (mul-le-mul-right n h)
 room-at : (c : tie.After-wide2 Inv-loop μ-loop) →
     let n = c .before .before .before .wide .result in
     c .wide2 .result * n + n ≤ length (now (c .before .before .before .before .before .args .run))
-room-at c = rw (known (c .before .before .before .before .before) .long, ← c .before .before .before .wide .ensures) (room _ _ _ (omega arith))
+room-at c =
+    rw (known (c .before .before .before .before .before) .long, ← c .before .before .before .wide .ensures)
+    (room _ _ _ (omega arith))
 
 next : (s : Absorbed) (pending seat first n : ℕ) (run : List ℕ) (i : ℕ) (a b : Absorbed) (part : List ℕ)
-    → a ≡ absorbFirst s pending seat first n run i → part ≡ frameAt run n i → b ≡ absorbOne a pending seat (first + i) part
+    → a ≡ absorbFirst s pending seat first n run i → part ≡ frameAt run n i
+    → b ≡ absorbOne a pending seat (first + i) part
     → b ≡ absorbFirst s pending seat first n run (i + 1)
 unfolding absorbFirst
 next s pending seat first n run i a b part e p d = rw add-one (d ∙ cc)
@@ -65,7 +69,8 @@ loop-again c =
     let h = c .before .before .before .before in
     let a = h .before .before .before .args in (
       search needs,
-      next _ (a .pending) (a .seat) (a .inputs .first) (h .before .wide .result) (now (a .run)) (h .loop .i) (h .loop .a) _ _ (h .loop .inv .1)
+      next _ (a .pending) (a .seat) (a .inputs .first) (h .before .wide .result) (now (a .run)) (h .loop .i)
+          (h .loop .a) _ _ (h .loop .inv .1)
           (rw (add-sub-cancel-left, c .before .before .wide2 .ensures)) (c .absorb-one .ensures),
     )
 
@@ -78,5 +83,6 @@ returns c =
 pub absorb-inputs-spec : {M : Type 1} → statement M
 absorb-inputs-spec =
     tie.close
-    (tie.spec Inv-loop μ-loop (search needs) loop-holds (search needs) mul-from add-to (search needs) add-absorb-one (search needs) (search needs)
-    part-absorb-one-end absorb-one-requires (search needs) (search needs) loop-again returns)
+    (tie.spec Inv-loop μ-loop (search needs) loop-holds (search needs) mul-from add-to (search needs) add-absorb-one
+    (search needs) (search needs) part-absorb-one-end absorb-one-requires (search needs) (search needs) loop-again
+    returns)

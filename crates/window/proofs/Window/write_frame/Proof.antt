@@ -27,13 +27,14 @@ pasted w at bytes i = withRing w (paste (w .ring) at bytes i)
 pasted-none : (w : Window) (at : ℕ) (bytes : List ℕ) → w ≡ pasted w at bytes 0
 pasted-none w at bytes = ap (withRing w) (paste-zero (w .ring) at bytes)
 
-pasted-more : (w₀ w : Window) (at : ℕ) (bytes : List ℕ) (i : ℕ) → w ≡ pasted w₀ at bytes i → at + i < length (w₀ .ring) → i < length bytes
-    → withRing w (set (w .ring) (at + i) (getD bytes i 0)) ≡ pasted w₀ at bytes (i + 1)
+pasted-more : (w₀ w : Window) (at : ℕ) (bytes : List ℕ) (i : ℕ) → w ≡ pasted w₀ at bytes i → at + i < length (w₀ .ring)
+    → i < length bytes → withRing w (set (w .ring) (at + i) (getD bytes i 0)) ≡ pasted w₀ at bytes (i + 1)
 pasted-more w₀ w at bytes i e h k = rw (e, add-one) (ap (withRing w₀) (paste-suc (w₀ .ring) at bytes i 0 h k))
 
 pasted-all : (w₀ w : Window) (seat tick at cell i held : ℕ) (bytes : List ℕ) → w ≡ pasted w₀ at bytes i
     → i ≡ length bytes → at ≡ frameStart seat tick → cell ≡ slotOf tick → held ≡ adding seats (heldBy w₀ tick) seat
-    → record { ring = w .ring; ticks = set (w .ticks) cell tick; present = set (w .present) cell held } ≡ written w₀ seat tick bytes
+    → record { ring = w .ring; ticks = set (w .ticks) cell tick; present = set (w .present) cell held }
+    ≡ written w₀ seat tick bytes
 unfolding written
 pasted-all w₀ w seat tick at cell i held bytes e d p q r = rw (e, d, p, q, r)
 
@@ -52,7 +53,10 @@ unfolding writeFrame if_then_else_
 returns-2 c = rw (lt-ltb _ _ (c .before .if1 .left), lt-leb _ _ (c .if2 .taken))
 
 loop-holds : tie.Need-loop-holds Inv-loop μ-loop
-loop-holds c = (search needs, pasted-none _ (c .frame-start .result) (c .before .before .before .before .before .before .args .input .now))
+loop-holds c = (
+  search needs,
+  pasted-none _ (c .frame-start .result) (c .before .before .before .before .before .before .args .input .now),
+)
 
 loop-again : tie.Need-loop-again Inv-loop μ-loop
 loop-again c =
@@ -73,5 +77,6 @@ returns-3 c =
 pub write-frame-spec : {M : Type 1} → statement M
 write-frame-spec =
     tie.close
-    (tie.spec Inv-loop μ-loop returns returns-2 (search needs) (search needs) (search needs) loop-holds (search needs) (search needs) (search needs)
-    (search needs) (search needs) loop-again (search needs) (search needs) (search needs) (search needs) (search needs) returns-3)
+    (tie.spec Inv-loop μ-loop returns returns-2 (search needs) (search needs) (search needs) loop-holds (search needs)
+    (search needs) (search needs) (search needs) (search needs) loop-again (search needs) (search needs) (search needs)
+    (search needs) (search needs) returns-3)

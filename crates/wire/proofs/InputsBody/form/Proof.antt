@@ -39,15 +39,23 @@ returns-3 : tie.Need-returns-3
 unfolding inputsForm if_then_else_
 returns-3 c =
     let two = c .before .before .before in
-    rw (width-in (two .before .before), count-in two, ← c .before .before .wide .ensures, ← c .before .wide2 .ensures, ne-eqb _ _ (c .if3 .taken))
+    rw (
+      width-in (two .before .before),
+      count-in two,
+      ← c .before .before .wide .ensures,
+      ← c .before .wide2 .ensures,
+      ne-eqb _ _ (c .if3 .taken),
+    )
 
 -- the run has the bytes of its frames
-as-long : (c : tie.Else3) → let a = c .before .before .before .before .before .before .before .args in not (eqb (a .length) (a .self .count * a .self .width)) ≡ false
+as-long : (c : tie.Else3) → let a = c .before .before .before .before .before .before .before .args in
+    not (eqb (a .length) (a .self .count * a .self .width)) ≡ false
 as-long c = rw (← c .before .before .wide .ensures, ← c .before .wide2 .ensures, eq-eqb _ _ (c .if3 .left))
 
 -- past reasons 4, 7 and 8, the last
 last : (c : tie.Else3) → let a = c .before .before .before .before .before .before .before .args in
-    inputsForm (a .self) (a .length) ≡ if ltb most (a .self .first + a .self .count) then Malformed (TickOverflow (a .self .first) (a .self .count)) else Good
+    inputsForm (a .self) (a .length) ≡ if ltb most (a .self .first + a .self .count)
+    then Malformed (TickOverflow (a .self .first) (a .self .count)) else Good
 unfolding inputsForm if_then_else_
 last c = let two = c .before .before .before in rw (width-in (two .before .before), count-in two, as-long c)
 
@@ -64,4 +72,5 @@ returns-5 c =
 pub form-spec : {M : Type 1} → statement M
 form-spec =
     tie.close
-    (tie.spec (search needs) returns (search needs) returns-2 (search needs) (search needs) mul-declared returns-3 (search needs) (search needs) returns-4 returns-5)
+    (tie.spec (search needs) returns (search needs) returns-2 (search needs) (search needs) mul-declared returns-3
+    (search needs) (search needs) returns-4 returns-5)
