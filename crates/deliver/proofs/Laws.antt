@@ -162,20 +162,11 @@ module _ (s : Session) (fit : Fit (s .stats)) where
 
 -- ---- frames
 
-repeated-rises : (c : SessionStats) (n : ℕ) → c .«frames_repeated» ≤ n → Each _≤_ c (repeatedOf c n)
+-- another count of repeated frames leaves what holds of each other counter
+with-repeated : {R : ℕ → ℕ → Type 0} {c d : SessionStats} {m n : ℕ} → Each R c d → R m n
+    → Each R (repeatedOf c m) (repeatedOf d n)
 unfolding repeatedOf
-repeated-rises c n h = record {
-  refused = omega arith;
-  repeated = h;
-  contradicted = omega arith;
-  beyond = omega arith;
-  digests = omega arith;
-  stalls = omega arith;
-}
-
-repeated-fits : (c : SessionStats) (n : ℕ) → n ≤ most → Fit c → Fit (repeatedOf c n)
-unfolding repeatedOf
-repeated-fits c n h f = record {
+with-repeated f h = record {
   refused = f .refused;
   repeated = h;
   contradicted = f .contradicted;
@@ -183,6 +174,13 @@ repeated-fits c n h f = record {
   digests = f .digests;
   stalls = f .stalls;
 }
+
+repeated-rises : (c : SessionStats) (n : ℕ) → c .«frames_repeated» ≤ n → Each _≤_ c (repeatedOf c n)
+unfolding repeatedOf
+repeated-rises c n h = with-repeated (rises-not c) h
+
+repeated-fits : (c : SessionStats) (n : ℕ) → n ≤ most → Fit c → Fit (repeatedOf c n)
+repeated-fits c n h f = with-repeated f h
 
 -- a note's refusal, where nothing was written and where something was
 note-of : {s : Session} (r : Delivered) (wrote : Bool) → Each _≤_ (s .stats) (r .session .stats)
