@@ -26,6 +26,12 @@ ours p tick state input = withOwn p (print tick state input)
 theirs : Fingerprints → (seat tick state input : ℕ) → Fingerprints
 theirs p seat tick state input = withRemote p seat (print tick state input)
 
+-- what finding a print computes with, as one name to unfold
+finding : Unit {0}
+unfolding print ours theirs noPrints own remote ownFor remoteFor ofTick withOwn withRemote ownCell remoteCell cellAt
+    storedAt if_then_else_
+finding = tt
+
 -- a cell as it stands, and for a tick: another tick of the same cell, another cell, another seat, the last seat and one
 -- above it; the newer tick first
 found :
@@ -45,13 +51,12 @@ found :
     ∷ Holds (print 15 1 2) ∷ Empty
     ∷ Holds (print 5 1 2) ∷ Empty
     ∷ []
-unfolding print ours theirs noPrints own remote ownFor remoteFor ofTick withOwn withRemote ownCell remoteCell cellAt
-    storedAt if_then_else_
+unfolding finding
 found = refl
 
 -- a seat above the last changes nothing
 no-seat : theirs noPrints 8 5 1 2 ≡ noPrints
-unfolding print theirs noPrints withRemote ownCell remoteCell storedAt
+unfolding finding
 no-seat = refl
 
 -- silence on either side; the same and another state; another input alone; another tick in the remote's cell, and in
@@ -72,8 +77,7 @@ judged :
     ∷ true
     ∷ true
     ∷ []
-unfolding print ours theirs noPrints own remote ownFor remoteFor ofTick withOwn withRemote ownCell remoteCell cellAt
-    storedAt agrees allAgree partedBy parted has every if_then_else_
+unfolding finding agrees allAgree partedBy parted has every
 judged = refl
 
 -- an empty cell; an older and a newer tick in it; this tick with the same values, another state, another input; another
@@ -90,7 +94,7 @@ arrivals :
     ∷ Repeated ∷ Contradicted ∷ Contradicted
     ∷ New ∷ New
     ∷ []
-unfolding print theirs noPrints remote withRemote ownCell remoteCell cellAt storedAt arrivalBy arrival if_then_else_
+unfolding finding arrivalBy arrival
 arrivals = refl
 
 -- one's own ticks 0 and 3
@@ -115,6 +119,5 @@ last :
     ∷ At 3 ∷ At 3 ∷ At 3
     ∷ At 35 ∷ At 3
     ∷ []
-unfolding print ours theirs two noPrints remote remoteFor ofTick withOwn withRemote ownCell remoteCell cellAt storedAt
-    agrees allAgree has every offer higher agreedIn lastAgreed if_then_else_
+unfolding finding two agrees allAgree has every offer higher agreedIn lastAgreed
 last = refl

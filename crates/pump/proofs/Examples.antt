@@ -5,21 +5,15 @@ use mathlib.Core.Path.{_≡_, refl}
 use mathlib.Core.Bool.{Bool, true, false}
 use mathlib.Core.List.{List, [], _∷_}
 use lib.ListN.{replicate}
-use Rattle.logic.specs.Test.{if_then_else_}
-use Rattle.logic.specs.Tabulate.{tabulate}
-use Rattle.logic.specs.Range.{outside}
 use Rattle.logic.specs.Saturating.{most}
-use Rattle.peer.specs.Seats.{has, setOf, every, firstSeats, adding, removing, isSubset}
-use Rattle.params.specs.Params.{validity, badState, rosterOf, remotesOf}
 use Rattle.params.specs.declared.SessionParams.{SessionParams}
 use Rattle.wire.specs.declared.Body.{Body}
 use Rattle.wire.specs.declared.Body.the-variants as Body′
-use Rattle.window.specs.Window.{freshWindow, heldBy, isHeld, frameOf, written, writeFrame}
+use Rattle.window.specs.Window.{freshWindow, writeFrame}
 use Rattle.window.specs.declared.Window.{Window}
 use Rattle.fingerprint.specs.Cells.{noPrints}
 use Rattle.fingerprint.specs.declared.Cell.the-variants.{Holds}
 use Rattle.stats.specs.Stats.{noStats}
-use Rattle.session.specs.Session.{isPlaying}
 use Rattle.session.specs.declared.Outcome.the-variants.{PeerLeft}
 use Rattle.session.specs.declared.Standing.{Standing}
 use Rattle.session.specs.declared.Standing.the-variants.{Open, Over}
@@ -28,9 +22,8 @@ use Rattle.session.specs.declared.Emit.the-variants.{Hello}
 use Rattle.session.specs.declared.Session.{Session}
 use Rattle.pump.specs.declared.Outbound.{Outbound}
 use Rattle.pump.specs.declared.Outbound.the-variants.{Send, Nothing, BadState}
-use Rattle.pump.specs.Pump.{nextRemote, targetOf, span, carried, runByte, runFrom, runOf, inputsOf}
-use Rattle.pump.specs.Pump.{digestOf, saying, addressed, sayTo, say, firstKind, quiet, passEnds, send}
-use Rattle.pump.specs.Pump.{sent, pumpDigest, pumpInputs, pumpHello, pumpBye, pumpFrom, pump}
+use Rattle.pump.specs.Pump.{carried, runOf, pump}
+use Rattle.pump.proofs.Computing.{pumping}
 
 -- kind, tick and count, as the script runner prints them
 said : Body → List ℕ
@@ -89,9 +82,7 @@ case-r : Session
 case-r = at (seated 2 0) freshWindow 1 1 2 false (Over (PeerLeft 1 0))
 
 pumps-of-r : lines 3 case-r ≡ (1 ∷ 3 ∷ 0 ∷ 0 ∷ []) ∷ (71 ∷ []) ∷ (1 ∷ 6 ∷ 0 ∷ 0 ∷ []) ∷ []
-unfolding said line lines seated at case-r has setOf every firstSeats removing isSubset outside validity badState
-    rosterOf remotesOf isPlaying nextRemote targetOf saying addressed sayTo say firstKind quiet passEnds send sent
-    pumpBye pumpHello pumpFrom pump if_then_else_
+unfolding pumping said line lines seated at case-r
 pumps-of-r = refl
 
 -- seat 1 of three has pressed for ticks 0, 1 and 2, and seat 2 was not seen playing
@@ -104,28 +95,20 @@ playing-on w = at (seated 3 1) w 1 3 1 true Open
 whole-pass : lines 7 (playing-on pressed)
     ≡ (0 ∷ 3 ∷ 0 ∷ 0 ∷ []) ∷ (2 ∷ 3 ∷ 0 ∷ 0 ∷ []) ∷ (0 ∷ 4 ∷ 0 ∷ 3 ∷ []) ∷ (2 ∷ 4 ∷ 0 ∷ 3 ∷ []) ∷ (0 ∷ 5 ∷ 0 ∷ 0 ∷ [])
     ∷ (2 ∷ 5 ∷ 0 ∷ 0 ∷ []) ∷ (71 ∷ []) ∷ []
-unfolding said line lines seated at pressed playing-on has setOf every firstSeats adding removing isSubset outside
-    validity badState rosterOf remotesOf freshWindow heldBy isHeld written writeFrame isPlaying nextRemote targetOf span
-    carried inputsOf digestOf saying addressed sayTo say firstKind quiet passEnds send sent pumpDigest pumpInputs
-    pumpHello pumpFrom pump if_then_else_
+unfolding pumping said line lines seated at pressed playing-on
 whole-pass = refl
 
 run-of-three : runOf (playing-on pressed) ≡ 0x41 ∷ 0x42 ∷ 0x43 ∷ replicate 125 0
-unfolding tabulate seated at pressed playing-on has setOf adding freshWindow heldBy isHeld frameOf written writeFrame
-    span carried runByte runFrom runOf if_then_else_
+unfolding pumping seated at pressed playing-on
 run-of-three = refl
 
 -- seat 0's frame for tick 65 empties the cell of tick 1: only the newest goes
 one-frame : carried (playing-on (writeFrame pressed 0 65 (1 ∷ []))) ≡ 1
-unfolding seated at pressed playing-on has setOf adding freshWindow heldBy isHeld written writeFrame span carried
-    if_then_else_
+unfolding pumping seated at pressed playing-on
 one-frame = refl
 
 -- its frame for tick 66 empties that of the newest: Inputs is skipped
 no-inputs : lines 5 (playing-on (writeFrame pressed 0 66 (1 ∷ [])))
     ≡ (0 ∷ 3 ∷ 0 ∷ 0 ∷ []) ∷ (2 ∷ 3 ∷ 0 ∷ 0 ∷ []) ∷ (0 ∷ 5 ∷ 0 ∷ 0 ∷ []) ∷ (2 ∷ 5 ∷ 0 ∷ 0 ∷ []) ∷ (71 ∷ []) ∷ []
-unfolding said line lines seated at pressed playing-on has setOf every firstSeats adding removing isSubset outside
-    validity badState rosterOf remotesOf freshWindow heldBy isHeld written writeFrame isPlaying nextRemote targetOf span
-    carried inputsOf digestOf saying addressed sayTo say firstKind quiet passEnds send sent pumpDigest pumpInputs
-    pumpHello pumpFrom pump if_then_else_
+unfolding pumping said line lines seated at pressed playing-on
 no-inputs = refl

@@ -1,4 +1,5 @@
 mod Loops
 pub mod Laws
 pub mod Newest
+pub mod Computing
 mod Examples

@@ -23,14 +23,17 @@ later = writeFrame (writeFrame (writeFrame case-r 0 64 (1 ∷ 2 ∷ [])) 1 64 (3
 zeros : ℕ → List ℕ
 zeros n = replicate n 0
 
+-- what a step's rows compute with, as one name to unfold
+laying : Unit {0}
+unfolding tabulate has setOf adding freshWindow heldBy isHeld frameOf written writeFrame padded rowsOf if_then_else_
+laying = tt
+
 rows-of-r : rowsOf case-r 0 2 1 ≡ (0x41 ∷ zeros 15) ∷ (0x42 ∷ zeros 15) ∷ replicate 6 (zeros 16)
-unfolding tabulate has setOf adding freshWindow heldBy isHeld frameOf written writeFrame padded rowsOf case-r zeros
-    if_then_else_
+unfolding laying case-r zeros
 rows-of-r = refl
 
 rows-later : rowsOf later 64 3 2 ≡ (1 ∷ 2 ∷ zeros 14) ∷ (3 ∷ 4 ∷ zeros 14) ∷ (5 ∷ 6 ∷ zeros 14) ∷ replicate 5 (zeros 16)
-unfolding tabulate has setOf adding freshWindow heldBy isHeld frameOf written writeFrame padded rowsOf case-r later
-    zeros if_then_else_
+unfolding laying case-r later zeros
 rows-later = refl
 
 -- a step hashes its tick, then the frames by rising seat, and the next step goes on from there
