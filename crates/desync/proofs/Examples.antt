@@ -47,7 +47,20 @@ four = record {
   };
 }
 
-whole : reportText four ≡ ascii "{\"schema_version\":1,\"tick\":30,\"local\":0,\"peer_count\":4,\"inputs_agree\":false,\"witnessed\":true,\"local_state_digest\":\"0x0000000000000007\",\"local_input_digest\":\"0x0000000000000003\",\"last_agreed_tick\":20,\"dissenters\":[1,3],\"peers\":[{\"seat\":0,\"state_digest\":null,\"input_digest\":null},{\"seat\":1,\"state_digest\":\"0x0000000000000009\",\"input_digest\":\"0x0000000000000003\"},{\"seat\":2,\"state_digest\":\"0x0000000000000007\",\"input_digest\":\"0x0000000000000003\"},{\"seat\":3,\"state_digest\":\"0x000000000000beef\",\"input_digest\":\"0x0000000000000004\"}],\"agreement_digest\":\"0x00000000000000ff\",\"content\":\"0x0000000000000010\",\"rules\":\"0x0000000000000000\",\"seed\":18446744073709551615,\"stats\":{\"datagrams_refused\":1,\"frames_repeated\":2,\"frames_contradicted\":0,\"frames_out_of_window\":0,\"digests_contradicted\":0,\"stall_pumps\":10}}"
+whole : reportText four
+    ≡ join (ascii "{\"schema_version\":1,\"tick\":30,\"local\":0,\"peer_count\":4,"
+    ∷ ascii "\"inputs_agree\":false,\"witnessed\":true,"
+    ∷ ascii "\"local_state_digest\":\"0x0000000000000007\",\"local_input_digest\":\"0x0000000000000003\","
+    ∷ ascii "\"last_agreed_tick\":20,\"dissenters\":[1,3],\"peers\":["
+    ∷ ascii "{\"seat\":0,\"state_digest\":null,\"input_digest\":null},"
+    ∷ ascii "{\"seat\":1,\"state_digest\":\"0x0000000000000009\",\"input_digest\":\"0x0000000000000003\"},"
+    ∷ ascii "{\"seat\":2,\"state_digest\":\"0x0000000000000007\",\"input_digest\":\"0x0000000000000003\"},"
+    ∷ ascii "{\"seat\":3,\"state_digest\":\"0x000000000000beef\",\"input_digest\":\"0x0000000000000004\"}],"
+    ∷ ascii "\"agreement_digest\":\"0x00000000000000ff\",\"content\":\"0x0000000000000010\","
+    ∷ ascii "\"rules\":\"0x0000000000000000\",\"seed\":18446744073709551615,"
+    ∷ ascii "\"stats\":{\"datagrams_refused\":1,\"frames_repeated\":2,"
+    ∷ ascii "\"frames_contradicted\":0,\"frames_out_of_window\":0,\"digests_contradicted\":0,\"stall_pumps\":10}}"
+    ∷ [])
 unfolding four reportText headText verdictText ownText listsText agreedText statsText flagText digestText seatDigest
     tickText comma seatList peerText peerList othersOf differs dissentersOf inputsAgree isWitnessed has setOf every
     tally firstSeats removing isEmpty seatCount digits decimal hexDigit hexDigits join if_then_else_
