@@ -46,7 +46,8 @@ use Rattle.session.specs.declared.Session.{Session}
 use Rattle.session.specs.Session.{withRemotePrint}
 use Rattle.deliver.specs.declared.Refusal.{Refusal}
 use Rattle.deliver.specs.declared.Delivered.{Delivered}
-use Rattle.deliver.specs.Deliver.{refuse, endWith, acceptHello, noteAnswer, framesTaken, absorb, printOf, judged, hearBy, hear, marked, accept, fromHeader, deliverForm, deliverBy, deliver}
+use Rattle.deliver.specs.Deliver.{refuse, endWith, acceptHello, noteAnswer, framesTaken, absorb, printOf, judged}
+use Rattle.deliver.specs.Deliver.{hearBy, hear, marked, accept, fromHeader, deliverForm, deliverBy, deliver}
 use Rattle.deliver.specs.Deliver as Calls
 use Rattle.agreement.specs.World.{seated, Mail}
 use Rattle.agreement.specs.Demand.{Valid, Pressed, Said, AgreeAt}
@@ -56,19 +57,24 @@ use Rattle.agreement.proofs.Judge.{ended-ok, judged-ok, parted-ok}
 
 -- ---- what changes no fact
 
-pub refuse-ok : {p : SessionParams} {log : Log} {i : ℕ} (s : Session) (r : Refusal) → SessOk p log i s → SessOk p log i (refuse s r .session)
+pub refuse-ok : {p : SessionParams} {log : Log} {i : ℕ} (s : Session) (r : Refusal) → SessOk p log i s
+    → SessOk p log i (refuse s r .session)
 unfolding refuse
 refuse-ok s r h = record { base = h .base; agree = h .agree }
 
-marked-ok : {p : SessionParams} {log : Log} {i : ℕ} (s : Session) (k : ℕ) → SessOk p log i s → SessOk p log i (marked s k)
+marked-ok : {p : SessionParams} {log : Log} {i : ℕ} (s : Session) (k : ℕ) → SessOk p log i s
+    → SessOk p log i (marked s k)
 unfolding marked
 marked-ok s k h = record { base = h .base; agree = h .agree }
 
-note-ok : {p : SessionParams} {log : Log} {i : ℕ} (s : Session) (r : Refusal) (wrote : Bool) → SessOk p log i s → SessOk p log i (noteAnswer (refuse s r) wrote .session)
+note-ok : {p : SessionParams} {log : Log} {i : ℕ} (s : Session) (r : Refusal) (wrote : Bool) → SessOk p log i s
+    → SessOk p log i (noteAnswer (refuse s r) wrote .session)
 unfolding noteAnswer
-note-ok {p} {log} {i} s r wrote h = byTest (λ (d : Delivered). SessOk p log i (d .session)) (λ _. refuse-ok s r h) (λ _. refuse-ok s r h)
+note-ok {p} {log} {i} s r wrote h =
+    byTest (λ (d : Delivered). SessOk p log i (d .session)) (λ _. refuse-ok s r h) (λ _. refuse-ok s r h)
 
-noted-ok : {p : SessionParams} {log : Log} {i : ℕ} (s : Session) (n : Note) (wrote : Bool) → SessOk p log i s → SessOk p log i (Calls.noted s n wrote .session)
+noted-ok : {p : SessionParams} {log : Log} {i : ℕ} (s : Session) (n : Note) (wrote : Bool) → SessOk p log i s
+    → SessOk p log i (Calls.noted s n wrote .session)
 unfolding Calls.noted
 noted-ok s Note′.Nothing wrote h = h
 noted-ok s (Note′.OutOfWindow tick pending) wrote h = note-ok s _ wrote h
@@ -83,11 +89,14 @@ frame-whole run w c j e l =
     let more : suc j * w ≤ c * w = mul-le-mul-right w l in
     length-take-le w (drop (j * w) run) (rw (length-drop, e) (omega (arith, more, suc-mul j w)))
 
-module _ (p : SessionParams) (log : Log) (k : ℕ) (low : k < seats) (short : p .width ≤ maxWidth) (few : p .count ≤ seats) where
-  one-ok : (a : Absorbed) (pending tick : ℕ) (v : List ℕ) → length v ≡ p .width → Pressed log k tick v → RingFacts p log (a .window)
+module _ (p : SessionParams) (log : Log) (k : ℕ) (low : k < seats) (short : p .width ≤ maxWidth)
+    (few : p .count ≤ seats) where
+  one-ok : (a : Absorbed) (pending tick : ℕ) (v : List ℕ) → length v ≡ p .width → Pressed log k tick v
+      → RingFacts p log (a .window)
       → RingFacts p log (absorbOne a pending k tick v .window)
   one-ok a pending tick v lv x h =
-      absorb-cases (λ (b : Absorbed). RingFacts p log (b .window)) a pending k tick v (λ _. h) (λ _. h) (λ _ _. h) (λ _ _. h)
+      absorb-cases (λ (b : Absorbed). RingFacts p log (b .window)) a pending k tick v (λ _. h) (λ _. h) (λ _ _. h)
+      (λ _ _. h)
       (λ _ _ _. write-ok p log (a .window) k tick v low short few lv x h)
 
   first-ok : (a : Absorbed) (pending first w c : ℕ) (run : List ℕ) (n : ℕ) → n ≤ c → w ≡ p .width → length run ≡ c * w
@@ -96,38 +105,57 @@ module _ (p : SessionParams) (log : Log) (k : ℕ) (low : k < seats) (short : p 
   unfolding absorbFirst
   first-ok a pending first w c run zero l ew lr x h = h
   first-ok a pending first w c run (suc n) l ew lr x h =
-      one-ok _ pending (first + n) (frameAt run w n) (frame-whole run w c n lr l ∙ ew) (x n l) (first-ok a pending first w c run n (omega arith) ew lr x h)
+      one-ok _ pending (first + n) (frameAt run w n) (frame-whole run w c n lr l ∙ ew) (x n l)
+      (first-ok a pending first w c run n (omega arith) ew lr x h)
 
-module _ (p : SessionParams) (valid : Valid p) (log : Log) (i k : ℕ) (li : i < p .count) (lk : k < p .count) (nk : k ≢ i) where
+module _ (p : SessionParams) (valid : Valid p) (log : Log) (i k : ℕ) (li : i < p .count) (lk : k < p .count)
+    (nk : k ≢ i) where
   ok : Sound (seated p i)
   ok = sound (seated p i) (valid i li)
 
   low : k < seats
   low = omega (arith, ok .count .greatest)
 
-  inputs-ok : (s : Session) (b : InputsBody) (run : List ℕ) → length run ≡ b .count * b .width → BodyOk log k (Body′.Inputs b) run → SessOk p log i s
+  inputs-ok : (s : Session) (b : InputsBody) (run : List ℕ) → length run ≡ b .count * b .width
+      → BodyOk log k (Body′.Inputs b) run → SessOk p log i s
       → SessOk p log i (absorb s k b run .session)
   unfolding absorb framesTaken absorbInputs
   inputs-ok s b run lr x h =
       byTest (λ (d : Delivered). SessOk p log i (d .session))
       (λ e.
-      let ew : b .width ≡ p .width = eqb-true (b .width) (s .params .width) e ∙ ap (λ (q : SessionParams). q .width) (h .base .par) in
+      let ew : b .width ≡ p .width =
+      eqb-true (b .width) (s .params .width) e ∙ ap (λ (q : SessionParams). q .width) (h .base .par) in
       let f = h .base in
-      let ring = first-ok p log k low (ok .width .greatest) (ok .count .greatest) (untouched (s .window) (s .stats .«frames_repeated»)) (s .pending) (b .first) (b .width) (b .count) run (b .count) (omega arith) ew lr x (f .ring) in
+      let ring = first-ok p log k low (ok .width .greatest) (ok .count .greatest)
+      (untouched (s .window) (s .stats .«frames_repeated»)) (s .pending) (b .first) (b .width) (b .count) run
+      (b .count) (omega arith) ew lr x (f .ring) in
       noted-ok _ _ _ (record {
-        base = record { par = f .par; ring = ring; next = f .next; fold = f .fold; prints = f .prints; said = f .said; out = f .out };
+        base =
+            record {
+              par = f .par;
+              ring = ring;
+              next = f .next;
+              fold = f .fold;
+              prints = f .prints;
+              said = f .said;
+              out = f .out;
+            };
         agree = h .agree;
       }))
       (λ _. refuse-ok s _ h)
 
   -- ---- a Digest
 
-  judge-ok : (s : Session) (t : ℕ) → Base p log i s → (s .outcome ≡ Open → (t′ : ℕ) → t′ ≢ t → AgreeAt (p .count) i (s .prints) t′) → SessOk p log i (judged s t .session)
+  judge-ok : (s : Session) (t : ℕ) → Base p log i s
+      → (s .outcome ≡ Open → (t′ : ℕ) → t′ ≢ t → AgreeAt (p .count) i (s .prints) t′)
+      → SessOk p log i (judged s t .session)
   unfolding judged endWith
   judge-ok s t b a =
-      byTest (λ (d : Delivered). SessOk p log i (d .session)) (λ e. parted-ok (ok .count .greatest) s t b e) (λ e. judged-ok (ok .count .greatest) s t b a e)
+      byTest (λ (d : Delivered). SessOk p log i (d .session)) (λ e. parted-ok (ok .count .greatest) s t b e)
+      (λ e. judged-ok (ok .count .greatest) s t b a e)
 
-  store-ok : (s : Session) (f : Fingerprint) → Said log k (f .tick) (f .state) → SessOk p log i s → SessOk p log i (judged (withRemotePrint s k f) (f .tick) .session)
+  store-ok : (s : Session) (f : Fingerprint) → Said log k (f .tick) (f .state) → SessOk p log i s
+      → SessOk p log i (judged (withRemotePrint s k f) (f .tick) .session)
   store-ok s f x h =
       let b = h .base in
       judge-ok (withRemotePrint s k f) (f .tick)
@@ -146,18 +174,22 @@ module _ (p : SessionParams) (valid : Valid p) (log : Log) (i k : ℕ) (li : i <
         said = b .said;
         out = b .out;
       })
-      (λ o t n j mine theirs l m y z. agree o t n j mine theirs l m (sym (ownFor-remote (s .prints) k f t) ∙ y) (remoteFor-stored (s .prints) k f j t theirs (b .prints .size) z))
+      (λ o t n j mine theirs l m y z. agree o t n j mine theirs l m (sym (ownFor-remote (s .prints) k f t) ∙ y)
+      (remoteFor-stored (s .prints) k f j t theirs (b .prints .size) z))
     where
-      other : (j t : ℕ) (q : Fingerprint) → j < p .count → Stored ((j ≡ k) × (t ≡ f .tick)) f q (remoteFor (s .prints) j t) → Said log j t (q .state)
+      other : (j t : ℕ) (q : Fingerprint) → j < p .count
+          → Stored ((j ≡ k) × (t ≡ f .tick)) f q (remoteFor (s .prints) j t) → Said log j t (q .state)
       other j t q l (fresh a c) = rw (a .0, a .1, c) x
       other j t q l (older c) = h .base .prints .other j t q l c
 
-      agree : s .outcome ≡ Open → (t : ℕ) → t ≢ f .tick → (j : ℕ) (mine theirs : Fingerprint) → j < p .count → j ≢ i → ownFor (s .prints) t ≡ Holds mine
+      agree : s .outcome ≡ Open → (t : ℕ) → t ≢ f .tick → (j : ℕ) (mine theirs : Fingerprint) → j < p .count → j ≢ i
+          → ownFor (s .prints) t ≡ Holds mine
           → Stored ((j ≡ k) × (t ≡ f .tick)) f theirs (remoteFor (s .prints) j t) → mine .state ≡ theirs .state
       agree o t n j mine theirs l m y (fresh a c) = absurd (n (a .1))
       agree o t n j mine theirs l m y (older c) = h .agree o t j mine theirs l m y c
 
-  hear-ok : (s : Session) (d : DigestBody) (a : Arrival) → Said log k (d .tick) (d .state) → SessOk p log i s → SessOk p log i (hearBy s k d a .session)
+  hear-ok : (s : Session) (d : DigestBody) (a : Arrival) → Said log k (d .tick) (d .state) → SessOk p log i s
+      → SessOk p log i (hearBy s k d a .session)
   unfolding hearBy
   hear-ok s d Contradicted x h = refuse-ok s _ h
   hear-ok s d Repeated x h = h
@@ -167,17 +199,23 @@ module _ (p : SessionParams) (valid : Valid p) (log : Log) (i k : ℕ) (li : i <
 
   hello-ok : (s : Session) (b : HelloBody) → SessOk p log i s → SessOk p log i (acceptHello s k b .session)
   unfolding acceptHello
-  hello-ok s b h = byTest (λ (d : Delivered). SessOk p log i (d .session)) (λ _. start-ok _ (record { base = h .base; agree = h .agree })) (λ _. refuse-ok s _ h)
+  hello-ok s b h =
+      byTest (λ (d : Delivered). SessOk p log i (d .session))
+      (λ _. start-ok _ (record { base = h .base; agree = h .agree })) (λ _. refuse-ok s _ h)
 
-  accept-ok : (s : Session) (b : Body) (run : List ℕ) → bodyForm b (length run) ≡ Form′.Good → BodyOk log k b run → SessOk p log i s → SessOk p log i (accept s k b run .session)
+  accept-ok : (s : Session) (b : Body) (run : List ℕ) → bodyForm b (length run) ≡ Form′.Good → BodyOk log k b run
+      → SessOk p log i s → SessOk p log i (accept s k b run .session)
   unfolding accept bodyForm hear endWith
   accept-ok s (Body′.Hello b) run g x h = hello-ok s b h
-  accept-ok s (Body′.Inputs b) run g x h = inputs-ok (marked s k) b run (good-inputs b (length run) g .long) x (marked-ok s k h)
+  accept-ok s (Body′.Inputs b) run g x h =
+      inputs-ok (marked s k) b run (good-inputs b (length run) g .long) x (marked-ok s k h)
   accept-ok s (Body′.Digest d) run g x h = hear-ok (marked s k) d _ x (marked-ok s k h)
-  accept-ok s (Body′.Bye b) run g x h = ended-ok s (PeerLeft k (b .tick)) (λ t e. absurd (let z : _≡_ {A = ℕ} 0 1 = cc in omega arith)) (h .base)
+  accept-ok s (Body′.Bye b) run g x h =
+      ended-ok s (PeerLeft k (b .tick)) (λ t e. absurd (let z : _≡_ {A = ℕ} 0 1 = cc in omega arith)) (h .base)
   accept-ok s (Body′.Other kind) run g x h = refuse-ok s _ h
 
-module _ (p : SessionParams) (valid : Valid p) (log : Log) (i : ℕ) (li : i < p .count) (s : Session) (source : ℕ) (m : Message) (run : List ℕ)
+module _ (p : SessionParams) (valid : Valid p) (log : Log) (i : ℕ) (li : i < p .count) (s : Session) (source : ℕ)
+    (m : Message) (run : List ℕ)
     (x : BodyOk log (m .sender) (m .body) run) (h : SessOk p log i s) where
   abbrev Kept : Delivered → Type 0
   Kept d = SessOk p log i (d .session)
@@ -191,9 +229,12 @@ module _ (p : SessionParams) (valid : Valid p) (log : Log) (i : ℕ) (li : i < p
       (λ other. byTest Kept (λ _. refuse-ok s _ h)
       (λ inside.
       let par = h .base .par in
-      let l = ltb-true (m .sender) (s .params .count) (sym (has-roster (s .params) (m .sender) low) ∙ not-false _ inside) in
-      let n : m .sender ≢ i = λ q. eqb-false (m .sender) (s .params .local) other (q ∙ sym (ap (λ (y : SessionParams). y .local) par)) in
-      accept-ok p valid log i (m .sender) li (subst (λ (y : SessionParams). m .sender < y .count) par l) n s (m .body) run good x h))))
+      let l = ltb-true (m .sender) (s .params .count)
+      (sym (has-roster (s .params) (m .sender) low) ∙ not-false _ inside) in
+      let n : m .sender ≢ i =
+      λ q. eqb-false (m .sender) (s .params .local) other (q ∙ sym (ap (λ (y : SessionParams). y .local) par)) in
+      accept-ok p valid log i (m .sender) li (subst (λ (y : SessionParams). m .sender < y .count) par l) n s
+      (m .body) run good x h))))
 
   form-ok : (f : Form) → formOf m run ≡ f → Kept (deliverForm s source m run f)
   unfolding deliverForm

@@ -1,6 +1,6 @@
--- What is kept true: of the log, of a session against the log, of a message, of a turn. Every fact takes the fields that it speaks of, not the
--- session, so that a change of other fields leaves it as it is, by computation.
--- Assumes nothing.
+-- What is kept true: of the log, of a session against the log, of a message, of a turn. Every fact takes the fields
+-- that it speaks of, not the session, so that a change of other fields leaves it as it is, by computation. Assumes
+-- nothing.
 use Prim.Native.Nat.{ℕ, zero, suc, _+_, _≤_, _<_}
 use mathlib.Core.Path.{_≡_}
 use mathlib.Core.Logic.{_≢_}
@@ -45,7 +45,13 @@ pub record AllPressed (p : SessionParams) (log : Log) (tick : ℕ) (rows : List 
 abbrev pub Folded : SessionParams → Log → ℕ → ℕ → Type 0
 Folded p log zero a = a ≡ start
 Folded p log (suc n) a =
-    record { before : ℕ; rows : List (List ℕ); fold : Folded p log n before; all : AllPressed p log n rows; is : a ≡ stepDigest before n (p .count) (p .width) rows }
+    record {
+      before : ℕ;
+      rows : List (List ℕ);
+      fold : Folded p log n before;
+      all : AllPressed p log n rows;
+      is : a ≡ stepDigest before n (p .count) (p .width) rows;
+    }
 
 -- ---- the parts of a session
 
@@ -64,7 +70,8 @@ FoldFacts p log pending (Out tick due) a = (tick ≡ pending) × Folded p log (s
 pub record PrintFacts (p : SessionParams) (log : Log) (i : ℕ) (prints : Fingerprints) (owed : Cell) : Type 0 where
   pub size : Prints.Sized prints
   pub own : (tick : ℕ) (f : Fingerprint) → ownFor prints tick ≡ Cell′.Holds f → Said log i tick (f .state)
-  pub other : (k tick : ℕ) (f : Fingerprint) → k < p .count → remoteFor prints k tick ≡ Cell′.Holds f → Said log k tick (f .state)
+  pub other : (k tick : ℕ) (f : Fingerprint) → k < p .count → remoteFor prints k tick ≡ Cell′.Holds f
+      → Said log k tick (f .state)
   pub owes : (f : Fingerprint) → owed ≡ Cell′.Holds f → Said log i (f .tick) (f .state)
 
 -- a session's own commits are all below its pending tick

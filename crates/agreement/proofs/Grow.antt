@@ -20,8 +20,8 @@ use Rattle.session.specs.declared.Standing.{Standing}
 use Rattle.session.specs.declared.Session.{Session}
 use Rattle.agreement.specs.World.{Event, pressed, stepped, committed}
 use Rattle.agreement.specs.Demand.{Pressed, Said, presses, Differ}
-use Rattle.agreement.proofs.Facts.{Log, AllPressed, Folded, RingFacts, FoldFacts, PrintFacts, SaidFacts, OutFacts, SessOk}
-use Rattle.agreement.proofs.Facts.{BodyOk, EventOk, Unpressed, Same, OnceBy, Once, TurnOk}
+use Rattle.agreement.proofs.Facts.{Log, AllPressed, Folded, RingFacts, FoldFacts, PrintFacts, SaidFacts}
+use Rattle.agreement.proofs.Facts.{OutFacts, SessOk, BodyOk, EventOk, Unpressed, Same, OnceBy, Once, TurnOk}
 
 -- what holds of the one element of a list
 pub single : {A : Type 0} (Q : A → Type 0) {a : A} → Q a → (e : A) → List·Memᴰ e (a ∷ []) → Q e
@@ -51,7 +51,17 @@ module _ {log longer : Log} (up : Sub log longer) where
   fold-up p pending (Out tick due) a h = (h .0, folded-up p (suc pending) a (h .1))
 
   differ-up : {p : SessionParams} {i tick : ℕ} → Differ p log i tick → Differ p longer i tick
-  differ-up d = record { seat = d .seat; within = d .within; another = d .another; ours = d .ours; theirs = d .theirs; we = up _ (d .we); they = up _ (d .they); apart = d .apart }
+  differ-up d =
+      record {
+        seat = d .seat;
+        within = d .within;
+        another = d .another;
+        ours = d .ours;
+        theirs = d .theirs;
+        we = up _ (d .we);
+        they = up _ (d .they);
+        apart = d .apart;
+      }
 
   pub ring-up : {p : SessionParams} {w : Window} → RingFacts p log w → RingFacts p longer w
   ring-up h = record { ok = h .ok; each = λ k t v l x. up _ (h .each k t v l x) }
@@ -81,7 +91,8 @@ module _ {log longer : Log} (up : Sub log longer) where
   event-up p (committed k t d) h = tt
 
 -- with no new press of its seat, and its commits still below its pending tick
-pub sess-up : {p : SessionParams} {log longer : Log} {i : ℕ} {s : Session} → Unpressed i log longer → SaidFacts longer i (s .pending)
+pub sess-up : {p : SessionParams} {log longer : Log} {i : ℕ} {s : Session} → Unpressed i log longer
+    → SaidFacts longer i (s .pending)
     → SessOk p log i s → SessOk p longer i s
 sess-up {p} {log} {longer} {i} {s} g said h =
     let up = g .keep in
@@ -100,13 +111,15 @@ sess-up {p} {log} {longer} {i} {s} g said h =
       agree = h .agree;
     }
 
-pub sess-same : {p : SessionParams} {log longer : Log} {i : ℕ} {s : Session} → Same i log longer → SessOk p log i s → SessOk p longer i s
+pub sess-same : {p : SessionParams} {log longer : Log} {i : ℕ} {s : Session} → Same i log longer → SessOk p log i s
+    → SessOk p longer i s
 sess-same g h = sess-up (g .unpressed) (λ t d x. h .base .said t d (g .unsaid t d x)) h
 
 -- ---- what an event adds
 
 pub same-refl : (j : ℕ) (log : Log) → Same j log log
-same-refl j log = record { unpressed = record { keep = λ e x. x; back = λ t b x. x; count = refl }; unsaid = λ t d x. x }
+same-refl j log =
+    record { unpressed = record { keep = λ e x. x; back = λ t b x. x; count = refl }; unsaid = λ t d x. x }
 
 tail-of : {e f : Event} {log : Log} → e ≢ f → List·Memᴰ e (f ∷ log) → List·Memᴰ e log
 tail-of n (List·Memᴰ·head q) = absurd (n q)
@@ -121,10 +134,12 @@ same-stepped j log k t a rows = record {
 
 pub unpressed-committed : (j : ℕ) (log : Log) (k t d : ℕ) → Unpressed j log (committed k t d ∷ log)
 unfolding presses
-unpressed-committed j log k t d = record { keep = λ e x. List·Memᴰ·tail x; back = λ _ _ x. tail-of (λ e. true≢false (cc)) x; count = refl }
+unpressed-committed j log k t d =
+    record { keep = λ e x. List·Memᴰ·tail x; back = λ _ _ x. tail-of (λ e. true≢false (cc)) x; count = refl }
 
 pub same-committed : (i j : ℕ) (log : Log) (t d : ℕ) → j ≢ i → Same j log (committed i t d ∷ log)
-same-committed i j log t d n = record { unpressed = unpressed-committed j log i t d; unsaid = λ _ _ x. tail-of (λ e. n (cc)) x }
+same-committed i j log t d n =
+    record { unpressed = unpressed-committed j log i t d; unsaid = λ _ _ x. tail-of (λ e. n (cc)) x }
 
 pub same-pressed : (i j : ℕ) (log : Log) (t : ℕ) (b : List ℕ) → j ≢ i → Same j log (pressed i t b ∷ log)
 unfolding presses
@@ -147,10 +162,14 @@ module _ {T : Type 0} (made : (seat tick : ℕ) → T → Event) where
 
   -- and so does one that is the first for its seat and tick; what an event is made of can be read off it
   module _ (apart : (k t i u : ℕ) (v w : T) → made k t v ≡ made i u w → (k ≡ i) × (t ≡ u) × (v ≡ w)) where
-    once-first : {log : Log} (i u : ℕ) (w : T) → ((v : T) → List·Memᴰ (made i u v) log → ⊥) → OnceBy made log → OnceBy made (made i u w ∷ log)
-    once-first i u w new h k t b c (List·Memᴰ·head x) (List·Memᴰ·head y) = apart k t i u b w x .2 ∙ sym (apart k t i u c w y .2)
-    once-first i u w new h k t b c (List·Memᴰ·head x) (List·Memᴰ·tail y) = let q = apart k t i u b w x in absurd (new c (rw (q .0, q .1) at y))
-    once-first i u w new h k t b c (List·Memᴰ·tail x) (List·Memᴰ·head y) = let q = apart k t i u c w y in absurd (new b (rw (q .0, q .1) at x))
+    once-first : {log : Log} (i u : ℕ) (w : T) → ((v : T) → List·Memᴰ (made i u v) log → ⊥) → OnceBy made log
+        → OnceBy made (made i u w ∷ log)
+    once-first i u w new h k t b c (List·Memᴰ·head x) (List·Memᴰ·head y) =
+        apart k t i u b w x .2 ∙ sym (apart k t i u c w y .2)
+    once-first i u w new h k t b c (List·Memᴰ·head x) (List·Memᴰ·tail y) =
+        let q = apart k t i u b w x in absurd (new c (rw (q .0, q .1) at y))
+    once-first i u w new h k t b c (List·Memᴰ·tail x) (List·Memᴰ·head y) =
+        let q = apart k t i u c w y in absurd (new b (rw (q .0, q .1) at x))
     once-first i u w new h k t b c (List·Memᴰ·tail x) (List·Memᴰ·tail y) = h k t b c x y
 
 pub once-stepped : {log : Log} (i t a : ℕ) (rows : List (List ℕ)) → Once log → Once (stepped i t rows a ∷ log)
@@ -159,13 +178,15 @@ once-stepped i t a rows h = record {
   commit = once-past committed (λ _ _ _ e. true≢false (cc)) (h .commit);
 }
 
-pub once-pressed : {log : Log} (i t : ℕ) (b : List ℕ) → ((v : List ℕ) → Pressed log i t v → ⊥) → Once log → Once (pressed i t b ∷ log)
+pub once-pressed : {log : Log} (i t : ℕ) (b : List ℕ) → ((v : List ℕ) → Pressed log i t v → ⊥) → Once log
+    → Once (pressed i t b ∷ log)
 once-pressed i t b new h = record {
   press = once-first pressed (λ _ _ _ _ _ _ e. (cc, cc, cc)) i t b new (h .press);
   commit = once-past committed (λ _ _ _ e. true≢false (cc)) (h .commit);
 }
 
-pub once-committed : {log : Log} (i t d : ℕ) → ((state : ℕ) → Said log i t state → ⊥) → Once log → Once (committed i t d ∷ log)
+pub once-committed : {log : Log} (i t d : ℕ) → ((state : ℕ) → Said log i t state → ⊥) → Once log
+    → Once (committed i t d ∷ log)
 once-committed i t d new h = record {
   press = once-past pressed (λ _ _ _ e. true≢false (cc)) (h .press);
   commit = once-first committed (λ _ _ _ _ _ _ e. (cc, cc, cc)) i t d new (h .commit);

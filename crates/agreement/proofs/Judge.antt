@@ -38,7 +38,8 @@ over-out p log i Open o h d t e = d t (let q : o ≡ Desynced t = cc in q)
 over-out p log i (Over q) o h d t e = h t e
 
 module _ {p : SessionParams} {log : Log} {i : ℕ} where
-  pub ended-ok : (s : Session) (o : Outcome) → ((t : ℕ) → o ≡ Desynced t → Differ p log i t) → Base p log i s → SessOk p log i (ended s o)
+  pub ended-ok : (s : Session) (o : Outcome) → ((t : ℕ) → o ≡ Desynced t → Differ p log i t) → Base p log i s
+      → SessOk p log i (ended s o)
   unfolding ended
   ended-ok s o d b = record {
     base =
@@ -59,13 +60,15 @@ module _ {p : SessionParams} {log : Log} {i : ℕ} where
     remote-is : (k : ℕ) → k < seats → has (remotesOf (s .params)) k ≡ true → (k < p .count) × (k ≢ i)
     remote-is k l e =
         let q : ltb k (p .count) && not (eqb k i) ≡ true =
-        sym (ap (λ (x : SessionParams). ltb k (x .count) && not (eqb k (x .local))) (b .par)) ∙ sym (has-remotes (s .params) k l) ∙ e in
+        sym (ap (λ (x : SessionParams). ltb k (x .count) && not (eqb k (x .local))) (b .par))
+        ∙ sym (has-remotes (s .params) k l) ∙ e in
         let both = and-both _ _ q in
         (ltb-true k (p .count) (both .0), eqb-false k i (not-true _ (both .1)))
 
     is-remote : (k : ℕ) → k < p .count → k ≢ i → has (remotesOf (s .params)) k ≡ true
     is-remote k l n =
-        has-remotes (s .params) k (omega arith) ∙ ap (λ (x : SessionParams). ltb k (x .count) && not (eqb k (x .local))) (b .par)
+        has-remotes (s .params) k (omega arith)
+        ∙ ap (λ (x : SessionParams). ltb k (x .count) && not (eqb k (x .local))) (b .par)
         ∙ rw (lt-ltb k (p .count) l, ne-eqb k i n)
 
     apart : parted (s .prints) (remotesOf (s .params)) t ≡ true → Differ p log i t
@@ -84,15 +87,18 @@ module _ {p : SessionParams} {log : Log} {i : ℕ} where
         }
 
     together : parted (s .prints) (remotesOf (s .params)) t ≡ false → AgreeAt (p .count) i (s .prints) t
-    together e k mine theirs l n x y = sym (parted-false (s .prints) (remotesOf (s .params)) t e mine x k (omega arith) (is-remote k l n) theirs y)
+    together e k mine theirs l n x y =
+        sym (parted-false (s .prints) (remotesOf (s .params)) t e mine x k (omega arith) (is-remote k l n) theirs y)
 
     -- agreement at every tick but t, and judged at t
-    pub judged-ok : (s .outcome ≡ Open → (t′ : ℕ) → t′ ≢ t → AgreeAt (p .count) i (s .prints) t′) → parted (s .prints) (remotesOf (s .params)) t ≡ false → SessOk p log i s
+    pub judged-ok : (s .outcome ≡ Open → (t′ : ℕ) → t′ ≢ t → AgreeAt (p .count) i (s .prints) t′)
+        → parted (s .prints) (remotesOf (s .params)) t ≡ false → SessOk p log i s
     judged-ok a e = record { base = b; agree = λ o t′. caseEq t′ t (λ q. rw q (together e)) (λ n. a o t′ n) }
 
     pub parted-ok : parted (s .prints) (remotesOf (s .params)) t ≡ true → SessOk p log i (ended s (Desynced t))
     parted-ok e = ended-ok s (Desynced t) (λ t′ q. let same : t ≡ t′ = cc in rw (← same) (apart e)) b
 
-    pub judge-ok : (s .outcome ≡ Open → (t′ : ℕ) → t′ ≢ t → AgreeAt (p .count) i (s .prints) t′) → SessOk p log i (judge s t)
+    pub judge-ok : (s .outcome ≡ Open → (t′ : ℕ) → t′ ≢ t → AgreeAt (p .count) i (s .prints) t′)
+        → SessOk p log i (judge s t)
     unfolding judge
     judge-ok a = byTest (SessOk p log i) (λ e. parted-ok e) (λ e. judged-ok a e)

@@ -19,7 +19,9 @@ use Rattle.fingerprint.proofs.Laws.{new-sized, ownFor-new, remoteFor-new}
 use Rattle.session.specs.declared.Session.{Session}
 use Rattle.session.specs.Session.{fresh}
 use Rattle.session.specs.Host.{opened}
-use Rattle.agreement.specs.World.{seated, Mail, Call, submits, delivers, advances, commits, leaves, pumps, asks, Event, pressed, stepped, committed, World, Turn, deliverTurn, turn, seatOf, update, after, play, run}
+use Rattle.agreement.specs.World.{seated, Mail, Call, submits, delivers, advances, commits, leaves, pumps, asks}
+use Rattle.agreement.specs.World.{Event, pressed, stepped, committed, World, Turn, deliverTurn, turn, seatOf}
+use Rattle.agreement.specs.World.{update, after, play, run}
 use Rattle.agreement.specs.Demand.{Valid, presses, Few}
 use Rattle.agreement.proofs.Facts.{Log, SessOk, MailOk, EventOk, TurnOk, TurnGoal, WorldOk}
 use Rattle.agreement.proofs.Grow.{sess-same, body-up, event-up, quiet-ok}
@@ -36,7 +38,8 @@ got (x ∷ xs) (suc j) a e = List·Memᴰ·tail (got xs j a e)
 presses-le : (new log : Log) (k : ℕ) → presses log k ≤ presses (new ++ log) k
 unfolding presses
 presses-le [] log k = omega arith
-presses-le (pressed i t b ∷ new) log k = let h = presses-le new log k in byTest (λ (x : ℕ). presses log k ≤ x) (λ _. omega arith) (λ _. omega arith)
+presses-le (pressed i t b ∷ new) log k =
+    let h = presses-le new log k in byTest (λ (x : ℕ). presses log k ≤ x) (λ _. omega arith) (λ _. omega arith)
 presses-le (stepped i t rows a ∷ new) log k = presses-le new log k
 presses-le (committed i t d ∷ new) log k = presses-le new log k
 
@@ -63,17 +66,21 @@ module _ (p : SessionParams) (valid : Valid p) where
     agree = λ _ t k mine theirs l n x y. absurd (true≢false (cc (ownFor-new t)));
   }
 
-  given-ok : (log : Log) (i : ℕ) → i < p .count → (s : Session) (o : Option Mail) → ((m : Mail) → o ≡ some m → MailOk log m) → SessOk p log i s → TurnOk p log i (deliverTurn s o)
+  given-ok : (log : Log) (i : ℕ) → i < p .count → (s : Session) (o : Option Mail)
+      → ((m : Mail) → o ≡ some m → MailOk log m) → SessOk p log i s → TurnOk p log i (deliverTurn s o)
   unfolding deliverTurn
   given-ok log i li s none x h = quiet-ok h
-  given-ok log i li s (some m) x h = quiet-ok (deliver-ok p valid log i li s (m .source) (m .message) (m .run) (x m refl) h)
+  given-ok log i li s (some m) x h =
+      quiet-ok (deliver-ok p valid log i li s (m .source) (m .message) (m .run) (x m refl) h)
 
   turn-ok : (w : World) (c : Call) → WorldOk p w → seatOf c < p .count → TurnGoal p (w .log) (seatOf c) (turn w c)
   unfolding turn seatOf
   turn-ok w (submits i b) h l = submit-ok p valid (w .log) i l (w .at i) b (h .sessions i l)
-  turn-ok w (delivers i j) h l = λ _. given-ok (w .log) i l (w .at i) _ (λ m e. h .mail m (got (w .mail) j m e)) (h .sessions i l)
+  turn-ok w (delivers i j) h l =
+      λ _. given-ok (w .log) i l (w .at i) _ (λ m e. h .mail m (got (w .mail) j m e)) (h .sessions i l)
   turn-ok w (advances i) h l = λ _. advance-ok p valid (w .log) i l (w .at i) (h .sessions i l)
-  turn-ok w (commits i t d) h l = commit-ok p (sound (seated p i) (valid i l) .count .greatest) (w .log) i l (w .at i) t d (h .sessions i l)
+  turn-ok w (commits i t d) h l =
+      commit-ok p (sound (seated p i) (valid i l) .count .greatest) (w .log) i l (w .at i) t d (h .sessions i l)
   turn-ok w (leaves i) h l = λ _. quiet-ok (leave-ok (w .at i) (h .sessions i l))
   turn-ok w (pumps i) h l = λ _. pump-ok p (w .log) i l (w .at i) (h .sessions i l)
   turn-ok w (asks i) h l = λ _. quiet-ok (h .sessions i l)

@@ -1,5 +1,5 @@
--- Advance, commit and leave keep the facts: a step's rows are the presses, and its digest is the fold of all presses before.
--- Assumes nothing.
+-- Advance, commit and leave keep the facts: a step's rows are the presses, and its digest is the fold of all presses
+-- before. Assumes nothing.
 use Prim.Native.Nat.{ℕ, zero, suc, _+_, _-_, _≤_, _<_}
 use mathlib.Core.Path.{_≡_, refl, sym, ap, subst, _∙_}
 use mathlib.Core.Logic.{_≢_}
@@ -45,7 +45,8 @@ use Rattle.session.specs.Step as Calls
 use Rattle.session.proofs.Cases.{isIdle, advance-cases, commit-cases}
 use Rattle.agreement.specs.World.{seated, stepped, committed, stepShown, advanceTurn, commitShown, commitTurn}
 use Rattle.agreement.specs.Demand.{Valid, Said, presses, AgreeAt}
-use Rattle.agreement.proofs.Facts.{Log, AllPressed, Folded, FoldFacts, SaidFacts, SessOk, EventOk, Same, TurnOk, TurnGoal}
+use Rattle.agreement.proofs.Facts.{Log, AllPressed, Folded, FoldFacts, SaidFacts, SessOk, EventOk, Same, TurnOk}
+use Rattle.agreement.proofs.Facts.{TurnGoal}
 use Rattle.agreement.proofs.Grow.{single, sess-up, sess-same, same-stepped, unpressed-committed, same-committed}
 use Rattle.agreement.proofs.Grow.{once-stepped, once-committed, event-up, quiet-ok}
 use Rattle.agreement.proofs.Submit.{raised-lt}
@@ -66,11 +67,13 @@ module _ (p : SessionParams) (valid : Valid p) (log : Log) (i : ℕ) (li : i < p
   ok = sound (seated p i) (valid i li)
 
   -- every seat's frame is held
-  seat-held : (s : Session) → s .params ≡ seated p i → everySeatHeld s ≡ true → (k : ℕ) → k < p .count → isHeld (s .window) k (s .pending) ≡ true
+  seat-held : (s : Session) → s .params ≡ seated p i → everySeatHeld s ≡ true → (k : ℕ) → k < p .count
+      → isHeld (s .window) k (s .pending) ≡ true
   unfolding everySeatHeld isSubset isHeld
   seat-held s par e k l =
       let low : k < seats = omega (arith, ok .count .greatest) in
-      let in-it : has (rosterOf (s .params)) k ≡ true = has-roster (s .params) k low ∙ lt-ltb k (s .params .count) (subst (λ (x : SessionParams). k < x .count) (sym par) l) in
+      let in-it : has (rosterOf (s .params)) k ≡ true =
+      has-roster (s .params) k low ∙ lt-ltb k (s .params .count) (subst (λ (x : SessionParams). k < x .count) (sym par) l) in
       rw in-it at (every-at seats _ e k low)
 
   -- the step's rows are the presses
@@ -85,24 +88,29 @@ module _ (p : SessionParams) (valid : Valid p) (log : Log) (i : ℕ) (li : i < p
       let same : rows ≡ stepRows s = sym (ap (λ (x : SessionParams). rowsOf w t (x .count) (x .width)) par) in
       let few = ok .count .greatest in
       let short = ok .width .greatest in
-      let head : (k : ℕ) → k < n → take m (getD rows k []) ≡ frameOf w k t m = λ k l. row-head w t n m (h .base .ring .ok) k l few short in
+      let head : (k : ℕ) → k < n → take m (getD rows k []) ≡ frameOf w k t m =
+      λ k l. row-head w t n m (h .base .ring .ok) k l few short in
       subst (AllPressed p log t) same (record {
         size = length-rows w t n m;
-        each = λ k l. rw (head k l) (h .base .ring .each k t (frameOf w k t m) l (record { held = seat-held s par e k l; frame = refl }));
+        each = λ k l. rw (head k l)
+            (h .base .ring .each k t (frameOf w k t m) l (record { held = seat-held s par e k l; frame = refl }));
         pads = λ k l. row-frame w t n m k (omega arith) l ∙ ap padded (sym (head k l));
         none = λ k l c. row-none w t n m k l c;
       })
 
-  step-ok : (s : Session) → s .step ≡ Free → everySeatHeld s ≡ true → SessOk p log i s → TurnOk p log i (advanceTurn i (takeStep s))
+  step-ok : (s : Session) → s .step ≡ Free → everySeatHeld s ≡ true → SessOk p log i s
+      → TurnOk p log i (advanceTurn i (takeStep s))
   unfolding advanceTurn takeStep stepShown
   step-ok s free e h =
       let rows = stepRows s in
       let all = all-held s e h in
-      let f : Folded p log (s .pending) (s .digest) = subst (λ (o : Outstanding). FoldFacts p log (s .pending) o (s .digest)) free (h .base .fold) in
+      let f : Folded p log (s .pending) (s .digest) =
+      subst (λ (o : Outstanding). FoldFacts p log (s .pending) o (s .digest)) free (h .base .fold) in
       let a = stepDigest (s .digest) (s .pending) (s .params .count) (s .params .width) rows in
       let is : a ≡ stepDigest (s .digest) (s .pending) (p .count) (p .width) rows =
       ap (λ (x : SessionParams). stepDigest (s .digest) (s .pending) (x .count) (x .width) rows) (h .base .par) in
-      let fold : Folded p log (suc (s .pending)) a = record { before = s .digest; rows = rows; fold = f; all = all; is = is } in
+      let fold : Folded p log (suc (s .pending)) a =
+      record { before = s .digest; rows = rows; fold = f; all = all; is = is } in
       let shown = stepped i (s .pending) rows a in
       let grown : (j : ℕ) → Same j log (shown ∷ log) = λ j. same-stepped j log i (s .pending) a rows in
       let keep = grown i .unpressed .keep in
@@ -139,7 +147,9 @@ module _ (p : SessionParams) (valid : Valid p) (log : Log) (i : ℕ) (li : i < p
   stall-ok s h = quiet-ok (record { base = h .base; agree = h .agree })
 
   pub advance-ok : (s : Session) → SessOk p log i s → TurnOk p log i (advanceTurn i (advance s))
-  advance-ok s h = advance-cases (λ (r : Advanced). TurnOk p log i (advanceTurn i r)) s (λ a e. still s a e h) (λ _ f e. step-ok s f e h) (stall-ok s h)
+  advance-ok s h =
+      advance-cases (λ (r : Advanced). TurnOk p log i (advanceTurn i r)) s (λ a e. still s a e h)
+      (λ _ f e. step-ok s f e h) (stall-ok s h)
 
 -- ---- commit
 
@@ -155,7 +165,8 @@ refused-shows i t (Present d) (Commit′.DigestMismatch saw owed) n = refl
 
 module _ (p : SessionParams) (few : p .count ≤ seats) (log : Log) (i : ℕ) where
   -- a digest that the log has goes in its cell and is judged
-  print-ok : (s : Session) (t state : ℕ) → SessOk p log i s → Said log i t state → SessOk p log i (keepDigest s t (Present state))
+  print-ok : (s : Session) (t state : ℕ) → SessOk p log i s → Said log i t state
+      → SessOk p log i (keepDigest s t (Present state))
   unfolding keepDigest
   print-ok s t state h x =
       let b = h .base in
@@ -175,7 +186,8 @@ module _ (p : SessionParams) (few : p .count ≤ seats) (log : Log) (i : ℕ) wh
         said = b .said;
         out = b .out;
       })
-      (λ o t′ n k mine theirs l m y z. agree o t′ n k mine theirs l m (ownFor-stored (s .prints) f t′ mine (b .prints .size) y) (sym (remoteFor-own (s .prints) f k t′) ∙ z))
+      (λ o t′ n k mine theirs l m y z. agree o t′ n k mine theirs l m
+      (ownFor-stored (s .prints) f t′ mine (b .prints .size) y) (sym (remoteFor-own (s .prints) f k t′) ∙ z))
     where
       f : Fingerprint
       f = record { tick = t; state = state; input = s .digest }
@@ -184,7 +196,8 @@ module _ (p : SessionParams) (few : p .count ≤ seats) (log : Log) (i : ℕ) wh
       own t′ q (fresh a c) = rw (a, c) x
       own t′ q (older c) = h .base .prints .own t′ q c
 
-      agree : s .outcome ≡ Open → (t′ : ℕ) → t′ ≢ t → (k : ℕ) (mine theirs : Fingerprint) → k < p .count → k ≢ i → Stored (t′ ≡ t) f mine (ownFor (s .prints) t′)
+      agree : s .outcome ≡ Open → (t′ : ℕ) → t′ ≢ t → (k : ℕ) (mine theirs : Fingerprint) → k < p .count → k ≢ i
+          → Stored (t′ ≡ t) f mine (ownFor (s .prints) t′)
           → remoteFor (s .prints) k t′ ≡ Holds theirs → mine .state ≡ theirs .state
       agree o t′ n k mine theirs l m (fresh a c) z = absurd (n a)
       agree o t′ n k mine theirs l m (older c) z = h .agree o t′ k mine theirs l m c z
@@ -226,12 +239,15 @@ module _ (p : SessionParams) (few : p .count ≤ seats) (log : Log) (i : ℕ) wh
     said-ok d rare t′ d′ (List·Memᴰ·tail x) = omega (arith, room rare, h .base .said t′ d′ x)
 
 module _ (p : SessionParams) (few : p .count ≤ seats) (log : Log) (i : ℕ) (li : i < p .count) where
-  uncommitted : (s : Session) (t : ℕ) (given : WorldDigest) (a : Commit) → commitNo a ≢ 0 → SessOk p log i s → TurnGoal p log i (commitTurn i t given (Calls.committed s a))
+  uncommitted : (s : Session) (t : ℕ) (given : WorldDigest) (a : Commit) → commitNo a ≢ 0 → SessOk p log i s
+      → TurnGoal p log i (commitTurn i t given (Calls.committed s a))
   unfolding commitTurn
   uncommitted s t given a n h rare = rw (refused-shows i t given a n) (quiet-ok h)
 
   done-ok : (s : Session) (t : ℕ) (given : WorldDigest) (due : Bool) → s .step ≡ Out t due → SessOk p log i s
-      → TurnGoal p log i (commitTurn i t given (Calls.committed (keepDigest (withCommit s (raised (s .pending))) t given) Commit′.Done))
+      → TurnGoal p log i
+      (commitTurn i t given
+      (Calls.committed (keepDigest (withCommit s (raised (s .pending))) t given) Commit′.Done))
   unfolding commitTurn commitShown keepDigest
   done-ok s t Absent due e h rare = quiet-ok (pend-ok p few log i li s t due e h (rare i li))
   done-ok s t (Present d) due e h rare =
@@ -242,7 +258,8 @@ module _ (p : SessionParams) (few : p .count ≤ seats) (log : Log) (i : ℕ) (l
       record {
         session =
             print-ok p few longer i next t d
-            (sess-up grown (said-ok p few log i li s t due e h d few-here) (pend-ok p few log i li s t due e h few-here)) (List·Memᴰ·head refl);
+            (sess-up grown (said-ok p few log i li s t due e h d few-here)
+            (pend-ok p few log i li s t due e h few-here)) (List·Memᴰ·head refl);
         sends = λ m x. elim x [ ];
         shows = single (EventOk p longer) tt;
         once = once-committed i t d (unsaid p few log i li s t due e h);
@@ -250,9 +267,11 @@ module _ (p : SessionParams) (few : p .count ≤ seats) (log : Log) (i : ℕ) (l
         keep = grown .keep;
       }
 
-  pub commit-ok : (s : Session) (t : ℕ) (given : WorldDigest) → SessOk p log i s → TurnGoal p log i (commitTurn i t given (commit s t given))
+  pub commit-ok : (s : Session) (t : ℕ) (given : WorldDigest) → SessOk p log i s
+      → TurnGoal p log i (commitTurn i t given (commit s t given))
   commit-ok s t given h =
-      commit-cases (λ (r : Committed). TurnGoal p log i (commitTurn i t given r)) s t given (λ a n. uncommitted s t given a n h) (λ due e _. done-ok s t given due e h)
+      commit-cases (λ (r : Committed). TurnGoal p log i (commitTurn i t given r)) s t given
+      (λ a n. uncommitted s t given a n h) (λ due e _. done-ok s t given due e h)
 
 -- ---- leave
 

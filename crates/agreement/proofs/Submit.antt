@@ -39,7 +39,8 @@ unfolding started
 start-ok {p} {log} {i} s h = byTest (SessOk p log i) (λ _. record { base = h .base; agree = h .agree }) (λ _. h)
 
 -- a frame of the agreed width that is its seat's press can be written
-pub write-ok : (p : SessionParams) (log : Log) (w : Window) (k tick : ℕ) (v : List ℕ) → k < seats → p .width ≤ maxWidth → p .count ≤ seats → length v ≡ p .width
+pub write-ok : (p : SessionParams) (log : Log) (w : Window) (k tick : ℕ) (v : List ℕ) → k < seats
+    → p .width ≤ maxWidth → p .count ≤ seats → length v ≡ p .width
     → Pressed log k tick v → RingFacts p log w → RingFacts p log (writeFrame w k tick v)
 write-ok p log w k tick v low short few lv x h =
     let fits : length v ≤ maxWidth = omega arith in
@@ -60,14 +61,16 @@ module _ (p : SessionParams) (valid : Valid p) (log : Log) (i : ℕ) (li : i < p
   unfolding presses
   presses-more t b = if-true _ _ (eq-eqb i i refl)
 
-  press-ok : (s : Session) (b : List ℕ) → length b ≡ p .width → s .next < most → SessOk p log i s → SessOk p (pressed i (s .next) b ∷ log) i (press s b)
+  press-ok : (s : Session) (b : List ℕ) → length b ≡ p .width → s .next < most → SessOk p log i s
+      → SessOk p (pressed i (s .next) b ∷ log) i (press s b)
   unfolding press
   press-ok s b lb room h =
       let up : Sub log (pressed i (s .next) b ∷ log) = λ e x. List·Memᴰ·tail x in
       let f = h .base in
       let me : s .params .local ≡ i = ap (λ (x : SessionParams). x .local) (f .par) in
       let low : i < seats = omega (arith, ok .count .greatest) in
-      let ring = write-ok p (pressed i (s .next) b ∷ log) (s .window) i (s .next) b low (ok .width .greatest) (ok .count .greatest) lb (List·Memᴰ·head refl)
+      let ring = write-ok p (pressed i (s .next) b ∷ log) (s .window) i (s .next) b low (ok .width .greatest)
+      (ok .count .greatest) lb (List·Memᴰ·head refl)
       (record { ok = f .ring .ok; each = λ k t v l x. List·Memᴰ·tail (f .ring .each k t v l x) }) in
       record {
         base =
@@ -95,11 +98,13 @@ module _ (p : SessionParams) (valid : Valid p) (log : Log) (i : ℕ) (li : i < p
       unsaid t d (List·Memᴰ·head e) = absurd (true≢false (cc))
       unsaid t d (List·Memᴰ·tail x) = x
 
-  refused : (a : Submit) (b : List ℕ) (s : Session) → pressShown i b a ≡ [] → SessOk p log i s → TurnGoal p log i (submitTurn i b (submitted s a))
+  refused : (a : Submit) (b : List ℕ) (s : Session) → pressShown i b a ≡ [] → SessOk p log i s
+      → TurnGoal p log i (submitTurn i b (submitted s a))
   unfolding submitTurn
   refused a b s e h few = rw e (quiet-ok h)
 
-  accepted : (s : Session) (b : List ℕ) (u : Session) → SessOk p log i s → (s .next < most → SessOk p (pressed i (s .next) b ∷ log) i u)
+  accepted : (s : Session) (b : List ℕ) (u : Session) → SessOk p log i s
+      → (s .next < most → SessOk p (pressed i (s .next) b ∷ log) i u)
       → TurnGoal p log i (submitTurn i b (submitted u (Submit′.Accepted (s .next))))
   unfolding submitTurn pressShown
   accepted s b u h g few = record {
@@ -117,14 +122,19 @@ module _ (p : SessionParams) (valid : Valid p) (log : Log) (i : ℕ) (li : i < p
       let Q : Submitted → Type 0 = λ r. TurnGoal p log i (submitTurn i b r) in
       byTest Q (λ _. refused (Submit′.WrongWidth _ _) b s refl h)
       (λ e.
-      let lb : length b ≡ p .width = eqb-true (length b) (s .params .width) (not-false _ e) ∙ ap (λ (x : SessionParams). x .width) (h .base .par) in
-      byTest Q (λ _. refused (Submit′.WindowFull _ _) b s refl h) (λ _. accepted s b _ h (λ room. start-ok _ (press-ok s b lb room h))))
+      let lb : length b ≡ p .width =
+      eqb-true (length b) (s .params .width) (not-false _ e) ∙ ap (λ (x : SessionParams). x .width) (h .base .par) in
+      byTest Q (λ _. refused (Submit′.WindowFull _ _) b s refl h)
+      (λ _. accepted s b _ h (λ room. start-ok _ (press-ok s b lb room h))))
 
-  standing-ok : (s : Session) (b : List ℕ) (o : Standing) → SessOk p log i s → TurnGoal p log i (submitTurn i b (submitBy s b o))
+  standing-ok : (s : Session) (b : List ℕ) (o : Standing) → SessOk p log i s
+      → TurnGoal p log i (submitTurn i b (submitBy s b o))
   unfolding submitBy pressShown
   standing-ok s b (Over o) h = refused (Submit′.Ended o) b s refl h
   standing-ok s b Open h = open-ok s b h
 
   pub submit-ok : (s : Session) (b : List ℕ) → SessOk p log i s → TurnGoal p log i (submitTurn i b (submit s b))
   unfolding submit pressShown
-  submit-ok s b h = byTest (λ (r : Submitted). TurnGoal p log i (submitTurn i b r)) (λ _. refused Submit′.BadState b s refl h) (λ _. standing-ok s b (s .outcome) h)
+  submit-ok s b h =
+      byTest (λ (r : Submitted). TurnGoal p log i (submitTurn i b r)) (λ _. refused Submit′.BadState b s refl h)
+      (λ _. standing-ok s b (s .outcome) h)

@@ -22,13 +22,15 @@ module _ (p : SessionParams) {log : Log} (once : Once log) where
       ext-getD [] rows others (x .size ∙ sym (y .size))
       (λ k l.
       let low : k < seats = omega (arith, x .size) in
-      caseLt k (p .count) (λ m. x .pads k m ∙ ap padded (once .press k t _ _ (x .each k m) (y .each k m)) ∙ sym (y .pads k m))
+      caseLt k (p .count)
+      (λ m. x .pads k m ∙ ap padded (once .press k t _ _ (x .each k m) (y .each k m)) ∙ sym (y .pads k m))
       (λ m. x .none k low m ∙ sym (y .none k low m)))
 
   folded-one : (n a b : ℕ) → Folded p log n a → Folded p log n b → a ≡ b
   folded-one zero a b x y = x ∙ sym y
   folded-one (suc n) a b x y =
-      x .is ∙ ap (λ d. stepDigest d n (p .count) (p .width) (x .rows)) (folded-one n (x .before) (y .before) (x .fold) (y .fold))
+      x .is ∙ ap (λ d. stepDigest d n (p .count) (p .width) (x .rows))
+      (folded-one n (x .before) (y .before) (x .fold) (y .fold))
       ∙ ap (stepDigest (y .before) n (p .count) (p .width)) (rows-one (x .all) (y .all)) ∙ sym (y .is)
 
 meets : (p : SessionParams) (w : World) → WorldOk p w → Demand3 p w

@@ -1,8 +1,9 @@
--- Demand 3: "Take fresh sessions with equal parameters except their distinct seats, fed only messages their own pumps made, each given with its
--- true source, unaltered, but lost, late, repeated or reordered at will. While each has accepted fewer than 2^64-1 presses, any two steps for one tick
--- carry the same bytes for every seat, those its host submitted, and leave equal input digests. None ends as desynced at a tick unless two committed
--- different world digests there. One with no outcome never holds its own and another's differing world digests for one tick."
--- Assumes nothing.
+-- Demand 3: "Take fresh sessions with equal parameters except their distinct seats, fed only messages their own pumps
+-- made, each given with its true source, unaltered, but lost, late, repeated or reordered at will. While each has
+-- accepted fewer than 2^64-1 presses, any two steps for one tick carry the same bytes for every seat, those its host
+-- submitted, and leave equal input digests. None ends as desynced at a tick unless two committed different world
+-- digests there. One with no outcome never holds its own and another's differing world digests for one tick." Assumes
+-- nothing.
 use Prim.Native.Nat.{ℕ, suc, _<_}
 use mathlib.Core.Path.{_≡_}
 use mathlib.Core.Bool.{false}
@@ -48,8 +49,10 @@ Pressed log seat tick bytes = List·Memᴰ (pressed seat tick bytes) log
 abbrev pub Said : List Event → (seat tick state : ℕ) → Type 0
 Said log seat tick state = List·Memᴰ (committed seat tick state) log
 
--- two steps for one tick: the same bytes for every seat, those its host submitted and no others, and equal input digests
-pub record SameStep (p : SessionParams) (log : List Event) (tick : ℕ) (rows others : List (List ℕ)) (digest other : ℕ) : Type 0 where
+-- two steps for one tick: the same bytes for every seat, those its host submitted and no others, and equal input
+-- digests
+pub record SameStep (p : SessionParams) (log : List Event) (tick : ℕ) (rows others : List (List ℕ))
+    (digest other : ℕ) : Type 0 where
   pub bytes : rows ≡ others
   pub digests : digest ≡ other
   pub submitted : (k : ℕ) → k < p .count → Pressed log k tick (take (p .width) (getD rows k []))
@@ -73,6 +76,7 @@ AgreeAt count i prints tick = (k : ℕ) (mine theirs : Fingerprint) → k < coun
 
 pub record Demand3 (p : SessionParams) (w : World) : Type 0 where
   pub steps : (i j tick : ℕ) (rows others : List (List ℕ)) (digest other : ℕ)
-      → List·Memᴰ (stepped i tick rows digest) (w .log) → List·Memᴰ (stepped j tick others other) (w .log) → SameStep p (w .log) tick rows others digest other
+      → List·Memᴰ (stepped i tick rows digest) (w .log) → List·Memᴰ (stepped j tick others other) (w .log)
+      → SameStep p (w .log) tick rows others digest other
   pub desynced : (i tick : ℕ) → i < p .count → w .at i .outcome ≡ Over (Desynced tick) → Differ p (w .log) i tick
   pub holds : (i tick : ℕ) → i < p .count → w .at i .outcome ≡ Open → AgreeAt (p .count) i (w .at i .prints) tick
