@@ -605,6 +605,14 @@ class Window(unittest.TestCase):
         expected = {"datagrams_refused": 1, "frames_out_of_window": 1, "frames_repeated": 1}
         self.assertEqual(grown.counted(), expected)
 
+    def test_a_write_between_two_notes(self):
+        grown = playing(TWO)
+        grown.inputs(1, 62, b"B")
+        # Contradicted at 62, written at 63, out of the window at 64.
+        self.assertEqual(grown.inputs(1, 62, b"x", b"B", b"C"), 0)
+        self.assertEqual(grown.counted(), {"datagrams_refused": 1, "frames_out_of_window": 1})
+        self.assertTrue(rules.is_held(grown.session, 63, 1))
+
     def test_a_write_before_the_note(self):
         grown = playing(TWO)
         self.assertEqual(grown.inputs(1, 63, b"B", b"B"), 0)

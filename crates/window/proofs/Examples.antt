@@ -34,19 +34,21 @@ send w pending first count run = absorbInputs w 0 pending 1 (record { first = fi
 after : (first : ℕ) → List ℕ → Window
 after first run = send freshWindow 0 first 1 run .window
 
+-- seat 1 has pressed for ticks 62 and 63
+two : Window
+two = send freshWindow 0 62 2 (66 ∷ 67 ∷ []) .window
+
 cases :
     -- P2, P3: a new frame at tick 63, at tick 64
     shown (send freshWindow 0 63 1 (66 ∷ []))
     ∷ shown (send freshWindow 0 64 1 (66 ∷ []))
     -- P4: the same frame twice
     ∷ shown (send (after 63 (66 ∷ [])) 0 63 1 (66 ∷ []))
-    -- P5: tick 0 contradicted, tick 1 new
+    -- P5: tick 0 contradicted, tick 1 new; and alone
     ∷ shown (send (after 0 (66 ∷ [])) 0 0 2 (67 ∷ 68 ∷ []))
+    ∷ shown (send (after 0 (66 ∷ [])) 0 0 1 (67 ∷ []))
     -- P6: pending 3, frame for 2
     ∷ shown (send freshWindow 3 2 1 (66 ∷ []))
-    -- the last note counts: tick 0 contradicted, then tick 64 out of the window
-    ∷ shown (send (after 0 (66 ∷ [])) 0 0 1 (67 ∷ []))
-    ∷ shown (send freshWindow 0 63 2 (66 ∷ 67 ∷ []))
     -- a held frame for tick 0 is none for tick 64
     ∷ shown (send (after 0 (66 ∷ [])) 64 64 1 (67 ∷ []))
     ∷ []
@@ -54,10 +56,32 @@ cases :
     ∷ did (OutOfWindow 64 0) false 0
     ∷ did Nothing false 1
     ∷ did (Contradiction 1 0) true 0
-    ∷ did Nothing false 0
     ∷ did (Contradiction 1 0) false 0
-    ∷ did (OutOfWindow 64 0) true 0
+    ∷ did Nothing false 0
     ∷ did Nothing true 0
     ∷ []
 unfolding freshWindow has setOf adding heldBy isHeld frameOf written writeFrame raised sameBytes absorbOne frameAt absorbFirst absorbInputs shown did send after if_then_else_
 cases = refl
+
+-- Only the last note counts. A message's ticks rise, so what is out of the window comes after all else: the notes can
+-- be 28 and 28, 28 and 27, 27 and 27, and never 27 and then 28.
+last-notes :
+    -- ticks 62 and 63 contradicted
+    shown (send two 0 62 2 (68 ∷ 69 ∷ []))
+    -- tick 62 contradicted, 63 repeated, 64 out of the window
+    ∷ shown (send two 0 62 3 (68 ∷ 67 ∷ 70 ∷ []))
+    -- ticks 64 and 65 out of the window
+    ∷ shown (send two 0 64 2 (70 ∷ 71 ∷ []))
+    -- tick 62 contradicted, 63 written, 64 out of the window
+    ∷ shown (send (after 62 (66 ∷ [])) 0 62 3 (68 ∷ 67 ∷ 70 ∷ []))
+    -- tick 63 written, 64 out of the window
+    ∷ shown (send freshWindow 0 63 2 (66 ∷ 67 ∷ []))
+    ∷ []
+    ≡ did (Contradiction 1 63) false 0
+    ∷ did (OutOfWindow 64 0) false 1
+    ∷ did (OutOfWindow 65 0) false 0
+    ∷ did (OutOfWindow 64 0) true 0
+    ∷ did (OutOfWindow 64 0) true 0
+    ∷ []
+unfolding freshWindow has setOf adding heldBy isHeld frameOf written writeFrame raised sameBytes absorbOne frameAt absorbFirst absorbInputs shown did send after two if_then_else_
+last-notes = refl
