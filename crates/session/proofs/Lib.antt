@@ -1,3 +1,4 @@
 pub mod Computing
 pub mod Cases
 pub mod Laws
+mod Examples

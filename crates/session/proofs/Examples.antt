@@ -1,0 +1,80 @@
+-- A session that goes on past tick 0, computed from the definitions: each step is of the pending tick, carries the
+-- bytes that were pressed for it, and goes on from the digest of the one before.
+-- Assumes nothing.
+use Prim.Native.Nat.{ℕ}
+use mathlib.Core.Path.{_≡_, refl}
+use mathlib.Core.Bool.{Bool, true, false}
+use mathlib.Core.List.{List, [], _∷_}
+use lib.ListN.{replicate}
+use Rattle.logic.specs.Test.{if_then_else_}
+use Rattle.logic.specs.Range.{outside}
+use Rattle.logic.specs.Saturating.{raised}
+use Rattle.logic.specs.Tabulate.{tabulate}
+use Rattle.hash.specs.Fnv.{fnv, leBytes}
+use Rattle.peer.specs.Seats.{has, setOf, every, firstSeats, adding, removing, isSubset}
+use Rattle.params.specs.Params.{validity, badState, rosterOf, remotesOf}
+use Rattle.params.specs.declared.SessionParams.{SessionParams}
+use Rattle.window.specs.Window.{freshWindow, heldBy, isHeld, frameOf, written, writeFrame}
+use Rattle.rows.specs.Rows.{padded, rowsOf, heads, stepDigest}
+use Rattle.fingerprint.specs.Cells.{ownCell, remoteCell, noPrints, cellAt, storedAt, own, remote, withOwn, ofTick, ownFor, remoteFor}
+use Rattle.fingerprint.specs.Judging.{agrees, allAgree, partedBy, parted}
+use Rattle.stats.specs.Stats.{noStats}
+use Rattle.session.specs.declared.WorldDigest.{WorldDigest}
+use Rattle.session.specs.declared.WorldDigest.the-variants.{Absent, Present}
+use Rattle.session.specs.declared.Session.{Session}
+use Rattle.session.specs.declared.Advance.{Advance}
+use Rattle.session.specs.declared.Advance.the-variants as Advance′
+use Rattle.session.specs.declared.Advanced.{Advanced}
+use Rattle.session.specs.Session.{fresh, withHellos, withFrames, everySeatHeld, started}
+use Rattle.session.specs.Host.{opened, press, submitOpen, submitBy, submit}
+use Rattle.session.specs.Step.{takeStep, playOn, advanceBy, advanceFrom, advance, judge, keepDigest, commitFrom, commit}
+
+-- seat 0 of two, a byte a tick, a digest for every other one
+pair : SessionParams
+pair = record { count = 2; local = 0; width = 1; delay = 0; period = 2; seed = 0; content = 0; rules = 0; session = 9 }
+
+-- seat 1 has said Hello
+greeted : Session
+greeted = withHellos (opened pair .session) 3
+
+-- both press for the tick; seat 1's byte is stored as an accepted Inputs stores it
+both : Session → (tick mine theirs : ℕ) → Session
+both s tick mine theirs =
+    let t = submit s (mine ∷ []) .session in
+    withFrames t (writeFrame (t .window) 1 tick (theirs ∷ [])) (t .stats)
+
+-- ticks 0, 1 and 2, the earlier ones committed
+first : Advanced
+first = advance (both greeted 0 0x41 0x42)
+
+second : Advanced
+second = advance (both (commit (first .session) 0 (Present 5) .session) 1 0x43 0x44)
+
+third : Advanced
+third = advance (both (commit (second .session) 1 Absent .session) 2 0x45 0x46)
+
+-- an answer, the rows beside it and the input digest that is left
+record Shown : Type 0 where
+  answer : Advance
+  rows : List (List ℕ)
+  digest : ℕ
+
+shown : Advanced → Shown
+shown a = record { answer = a .answer; rows = a .frames .rows; digest = a .session .digest }
+
+-- a step of the tick with the two seats' bytes
+stepped : ℕ → Bool → (mine theirs digest : ℕ) → Shown
+stepped tick due mine theirs digest = record {
+  answer = Advance′.Step (record { tick = tick; due = due; count = 2; width = 1 });
+  rows = (mine ∷ replicate 15 0) ∷ (theirs ∷ replicate 15 0) ∷ replicate 6 (replicate 16 0);
+  digest = digest;
+}
+
+-- the digests are worked out apart: FNV-1a 64 of each tick and its two bytes, one after the other
+three-steps : shown first ∷ shown second ∷ shown third ∷ []
+    ≡ stepped 0 true 0x41 0x42 7563201615092177098
+    ∷ stepped 1 false 0x43 0x44 17649756686429412404
+    ∷ stepped 2 true 0x45 0x46 4997215071877954205
+    ∷ []
+unfolding if_then_else_ outside raised tabulate fnv leBytes has setOf every firstSeats adding removing isSubset validity badState rosterOf remotesOf freshWindow heldBy isHeld frameOf written writeFrame padded rowsOf heads stepDigest ownCell remoteCell noPrints cellAt storedAt own remote withOwn ofTick ownFor remoteFor agrees allAgree partedBy parted noStats fresh everySeatHeld started opened press submitOpen submitBy submit takeStep playOn advanceBy advanceFrom advance judge keepDigest commitFrom commit pair greeted both first second third shown stepped
+three-steps = refl
