@@ -68,9 +68,12 @@ greeted s =
 abbrev pub sends : Session → (first count : ℕ) → List ℕ → Delivered
 sends s first count run = hears s (Inputs (record { first = first; count = count; width = 1 })) run
 
--- its press for tick 0 is in
+-- its press for tick 0 is in, and that for tick 1 too
 abbrev pub once : Session
 once = sends new 0 1 (0x42 ∷ []) .session
+
+abbrev pub twice : Session
+twice = sends once 1 1 (0x44 ∷ []) .session
 
 -- both seats have pressed for the tick
 abbrev pub pressed : Session → ℕ → Session
@@ -91,13 +94,13 @@ played (suc n) = stepped (pressed (played n) n) n
 abbrev pub openNo : (count delay period : ℕ) → ℕ
 openNo count delay period = validityNo (opened (circle count delay period) .answer)
 
--- of a delivery: pending, the answer; `datagrams_refused`, `frames_repeated`, `frames_contradicted`,
--- `frames_out_of_window`; and 1 if seat 1's frame for the tick is held afterwards
+-- of a delivery: pending, the answer; the six counters; and 1 if seat 1's frame for the tick is held afterwards
 abbrev pub counted : Delivered → ℕ → List ℕ
 counted d tick =
     d .session .pending ∷ deliveryNo (d .answer)
     ∷ d .session .stats .«datagrams_refused» ∷ d .session .stats .«frames_repeated»
     ∷ d .session .stats .«frames_contradicted» ∷ d .session .stats .«frames_out_of_window»
+    ∷ d .session .stats .«digests_contradicted» ∷ d .session .stats .«stall_pumps»
     ∷ bit (isHeld (d .session .window) 1 tick) ∷ []
 
 -- why a session ended, as the script runner prints it: 1 desynced, 2 peer left, 3 left locally; and at which tick
@@ -138,21 +141,22 @@ table =
     ∷ row 1 (openNo 8 0 1 ∷ []) (0 ∷ [])
     ∷ row 1 (openNo 9 0 1 ∷ []) (11 ∷ [])
     -- P2 at pending 0, a new frame at tick 63: 0
-    ∷ row 2 (counted (sends new 63 1 (0x42 ∷ [])) 63) (0 ∷ 0 ∷ 0 ∷ 0 ∷ 0 ∷ 0 ∷ 1 ∷ [])
+    ∷ row 2 (counted (sends new 63 1 (0x42 ∷ [])) 63) (0 ∷ 0 ∷ 0 ∷ 0 ∷ 0 ∷ 0 ∷ 0 ∷ 0 ∷ 1 ∷ [])
     -- P3 at 64: 27
-    ∷ row 3 (counted (sends new 64 1 (0x42 ∷ [])) 64) (0 ∷ 27 ∷ 1 ∷ 0 ∷ 0 ∷ 1 ∷ 0 ∷ [])
+    ∷ row 3 (counted (sends new 64 1 (0x42 ∷ [])) 64) (0 ∷ 27 ∷ 1 ∷ 0 ∷ 0 ∷ 1 ∷ 0 ∷ 0 ∷ 0 ∷ [])
     -- P4 the same frame twice: 0, one repeat
-    ∷ row 4 (counted (sends new 0 1 (0x42 ∷ [])) 0) (0 ∷ 0 ∷ 0 ∷ 0 ∷ 0 ∷ 0 ∷ 1 ∷ [])
-    ∷ row 4 (counted (sends once 0 1 (0x42 ∷ [])) 0) (0 ∷ 0 ∷ 0 ∷ 1 ∷ 0 ∷ 0 ∷ 1 ∷ [])
-    -- P5 tick 0 contradicted, tick 1 new: 0, refused 1, contradicted 1. With nothing new it is 28, and the bytes that
-    -- came first stand: they repeat
-    ∷ row 5 (counted (sends once 0 2 (0x43 ∷ 0x44 ∷ [])) 1) (0 ∷ 0 ∷ 1 ∷ 0 ∷ 1 ∷ 0 ∷ 1 ∷ [])
-    ∷ row 5 (counted (sends once 0 1 (0x43 ∷ [])) 1) (0 ∷ 28 ∷ 1 ∷ 0 ∷ 1 ∷ 0 ∷ 0 ∷ [])
+    ∷ row 4 (counted (sends new 0 1 (0x42 ∷ [])) 0) (0 ∷ 0 ∷ 0 ∷ 0 ∷ 0 ∷ 0 ∷ 0 ∷ 0 ∷ 1 ∷ [])
+    ∷ row 4 (counted (sends once 0 1 (0x42 ∷ [])) 0) (0 ∷ 0 ∷ 0 ∷ 1 ∷ 0 ∷ 0 ∷ 0 ∷ 0 ∷ 1 ∷ [])
+    -- P5 tick 0 contradicted, tick 1 new: 0, refused 1, contradicted 1. With nothing new it is 28, and counted once too
+    -- where both ticks are contradicted; and the bytes that came first stand: they repeat
+    ∷ row 5 (counted (sends once 0 2 (0x43 ∷ 0x44 ∷ [])) 1) (0 ∷ 0 ∷ 1 ∷ 0 ∷ 1 ∷ 0 ∷ 0 ∷ 0 ∷ 1 ∷ [])
+    ∷ row 5 (counted (sends once 0 1 (0x43 ∷ [])) 1) (0 ∷ 28 ∷ 1 ∷ 0 ∷ 1 ∷ 0 ∷ 0 ∷ 0 ∷ 0 ∷ [])
+    ∷ row 5 (counted (sends twice 0 2 (0x43 ∷ 0x45 ∷ [])) 1) (0 ∷ 28 ∷ 1 ∷ 0 ∷ 1 ∷ 0 ∷ 0 ∷ 0 ∷ 1 ∷ [])
     ∷ row 5 (counted (sends (sends once 0 2 (0x43 ∷ 0x44 ∷ []) .session) 0 2 (0x42 ∷ 0x44 ∷ [])) 1)
-    (0 ∷ 0 ∷ 1 ∷ 2 ∷ 1 ∷ 0 ∷ 1 ∷ [])
+    (0 ∷ 0 ∷ 1 ∷ 2 ∷ 1 ∷ 0 ∷ 0 ∷ 0 ∷ 1 ∷ [])
     -- P6 pending 3, frame for 2: 0, no counter. At pending 2 the same frame is 28
-    ∷ row 6 (counted (sends (played 3) 2 1 (0x43 ∷ [])) 2) (3 ∷ 0 ∷ 0 ∷ 0 ∷ 0 ∷ 0 ∷ 1 ∷ [])
-    ∷ row 6 (counted (sends (pressed (played 2) 2) 2 1 (0x43 ∷ [])) 2) (2 ∷ 28 ∷ 1 ∷ 0 ∷ 1 ∷ 0 ∷ 1 ∷ [])
+    ∷ row 6 (counted (sends (played 3) 2 1 (0x43 ∷ [])) 2) (3 ∷ 0 ∷ 0 ∷ 0 ∷ 0 ∷ 0 ∷ 0 ∷ 0 ∷ 1 ∷ [])
+    ∷ row 6 (counted (sends (pressed (played 2) 2) 2 1 (0x43 ∷ [])) 2) (2 ∷ 28 ∷ 1 ∷ 0 ∷ 1 ∷ 0 ∷ 0 ∷ 0 ∷ 1 ∷ [])
     -- P7 delay 63 passes, 64: 14
     ∷ row 7 (openNo 2 63 1 ∷ []) (0 ∷ [])
     ∷ row 7 (openNo 2 64 1 ∷ []) (14 ∷ [])

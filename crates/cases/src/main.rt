@@ -69,6 +69,10 @@ fn once() -> Session {
     sends(new(), 0, 1, b"B").session
 }
 
+fn twice() -> Session {
+    sends(once(), 1, 1, b"D").session
+}
+
 fn pressed(s: Session, tick: u64) -> Session {
     let submitted = s.submit(b"A").session;
     sends(submitted, tick, 1, b"B").session
@@ -119,6 +123,8 @@ fn counts(number: u64, d: Delivered, tick: u64) {
     show(stats.frames_repeated);
     show(stats.frames_contradicted);
     show(stats.frames_out_of_window);
+    show(stats.digests_contradicted);
+    show(stats.stall_pumps);
     show(session.window.holds(1, tick) as u64);
     end_line();
 }
@@ -170,6 +176,7 @@ fn main() {
     counts(4, sends(once(), 0, 1, b"B"), 0);
     counts(5, sends(once(), 0, 2, b"CD"), 1);
     counts(5, sends(once(), 0, 1, b"C"), 1);
+    counts(5, sends(twice(), 0, 2, b"CE"), 1);
     counts(5, sends(sends(once(), 0, 2, b"CD").session, 0, 2, b"BD"), 1);
     let one = plays(greeted(new()), 0);
     let two = plays(one, 1);
