@@ -88,7 +88,8 @@ fn steps_elsewhere() -> Session {
     }
 }
 
-// Prints in cells that are not their tick's, the owed one at a tick of its own.
+// One's own cell 3 holds a print of tick 100, which belongs in cell 4. Cell 9 holds tick 9, of which seat 2 has another state, and seat 0's cell 9
+// holds tick 25. The owed print is of a tick that no cell holds.
 fn prints_astray() -> Session {
     let b = base();
     let mut p = b.prints;
@@ -123,7 +124,7 @@ fn prints_astray() -> Session {
     }
 }
 
-// The same, over as desynced at a tick whose own cell holds another.
+// The same, over as desynced at tick 9, which one's own cell holds and seat 2 denies, with pending at 0 again.
 fn parted_astray() -> Session {
     let s = prints_astray();
     Session {
