@@ -73,7 +73,8 @@ module _ (p : SessionParams) (valid : Valid p) (log : Log) (i : ℕ) (li : i < p
   seat-held s par e k l =
       let low : k < seats = omega (arith, ok .count .greatest) in
       let in-it : has (rosterOf (s .params)) k ≡ true =
-      has-roster (s .params) k low ∙ lt-ltb k (s .params .count) (subst (λ (x : SessionParams). k < x .count) (sym par) l) in
+      has-roster (s .params) k low
+      ∙ lt-ltb k (s .params .count) (subst (λ (x : SessionParams). k < x .count) (sym par) l) in
       rw in-it at (every-at seats _ e k low)
 
   -- the step's rows are the presses

@@ -1,5 +1,5 @@
-// The line of each answer: the call, document 01's number of the answer, and every value that the answer carries. The runner's lines have only the
-// number of a refusal, so these are this program's own. Nothing here makes a call.
+// The line of each answer: the call, document 01's number of the answer, and every value that the answer carries. The
+// runner's lines have only the number of a refusal, so these are this program's own. Nothing here makes a call.
 use deliver::Delivery;
 use deliver::Refusal;
 use desync::WriteReport;
@@ -17,7 +17,8 @@ use wire::HelloBody;
 use wire::Message;
 use wire::WireError;
 
-// What a report in a lent buffer came to, and how many bytes of the buffer are no longer what they were. A report's line has several.
+// What a report in a lent buffer came to, and how many bytes of the buffer are no longer what they were. A report's
+// line has several.
 pub(crate) struct Tried {
     pub answer: WriteReport,
     pub changed: u64,

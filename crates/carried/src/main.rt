@@ -1,6 +1,7 @@
-// What every answer carries. Standard input holds a script; for each record this prints the call, document 01's number of the answer and
-// every value that the answer carries (answers.rt). A report is asked for three times, the second time in a buffer that is a byte too short (report.rt).
-// The file stdout beside src/ is what the Rust says. Here is what drives: a record is read, its call is made, its line is written.
+// What every answer carries. Standard input holds a script; for each record this prints the call, document 01's number
+// of the answer and every value that the answer carries (answers.rt). A report is asked for three times, the second
+// time in a buffer that is a byte too short (report.rt). The file stdout beside src/ is what the Rust says. Here is
+// what drives: a record is read, its call is made, its line is written.
 mod answers;
 mod report;
 
@@ -23,7 +24,8 @@ struct Answered {
     pub line: Text,
 }
 
-// A record at the front of the buffer. `size` is 0 at the end of the input, and where the record is cut it is not whole.
+// A record at the front of the buffer. `size` is 0 at the end of the input, and where the record is cut it is not
+// whole.
 struct Read {
     pub size: usize,
     pub whole: bool,
@@ -219,7 +221,8 @@ fn take_turn(t: Turn, buf: &mut [u8]) -> Turn
     }
 }
 
-// A proved loop has to end, and nothing says that the input does: the turns are counted down from a number that no run uses up.
+// A proved loop has to end, and nothing says that the input does: the turns are counted down from a number that no run
+// uses up.
 fn main() {
     let mut buf = [0u8; script::LONGEST];
     let mut t = Turn {

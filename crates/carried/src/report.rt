@@ -1,5 +1,5 @@
-// A report, asked for three times in buffers that this lends: no record of a script asks for one in a buffer that is too short, and the runner's lines
-// do not show which bytes of a buffer were written.
+// A report, asked for three times in buffers that this lends: no record of a script asks for one in a buffer that is
+// too short, and the runner's lines do not show which bytes of a buffer were written.
 ghost use Prim.Native.Nat.{_≤_};
 ghost use lib.ListN.{length};
 ghost use Rattle.text.specs.Text.{textLimit};
@@ -9,7 +9,8 @@ use desync::WriteReport;
 use session::Session;
 use text::Text;
 
-// What a lent buffer holds before a report is written into it. A report is ASCII, so every byte that it writes is another.
+// What a lent buffer holds before a report is written into it. A report is ASCII, so every byte that it writes is
+// another.
 const UNTOUCHED: u8 = 170;
 
 // How many bytes are not as they were; the whole buffer is looked at, and not only the part that was lent.

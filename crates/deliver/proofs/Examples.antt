@@ -5,19 +5,10 @@ use Prim.Native.Nat.{ℕ}
 use mathlib.Core.Path.{_≡_, refl}
 use mathlib.Core.List.{List, [], _∷_}
 use mathlib.Core.Bool.{Bool, true, false}
-use Rattle.logic.specs.Test.{if_then_else_}
-use Rattle.logic.specs.Range.{outside}
-use Rattle.logic.specs.Saturating.{raised}
-use Rattle.peer.specs.Seats.{has, setOf, firstSeats, adding}
-use Rattle.params.specs.Params.{validity, badState, rosterOf}
 use Rattle.params.specs.declared.SessionParams.{SessionParams}
-use Rattle.wire.specs.Wire.{inputsForm, bodyForm, formOf}
 use Rattle.wire.specs.declared.Body.the-variants.{Inputs}
-use Rattle.window.specs.Window.{freshWindow, heldBy, isHeld, frameOf, written, writeFrame}
-use Rattle.window.specs.Absorb.{sameBytes, absorbOne, frameAt, absorbFirst, absorbInputs}
-use Rattle.stats.specs.Stats.{raisedIf, noStats, countedOf, repeatedOf}
+use Rattle.window.specs.Window.{isHeld}
 use Rattle.stats.specs.declared.SessionStats.{SessionStats}
-use Rattle.session.specs.Session.{fresh}
 use Rattle.session.specs.Host.{opened}
 use Rattle.session.specs.declared.Session.{Session}
 use Rattle.deliver.specs.declared.Refusal.the-variants.{OutOfWindow, Contradiction, WrongWidth}
@@ -25,7 +16,8 @@ use Rattle.deliver.specs.declared.Delivery.{Delivery}
 use Rattle.deliver.specs.declared.Delivery.the-variants.{Accepted, Refused}
 use Rattle.deliver.specs.declared.Delivered.{Delivered}
 use Rattle.deliver.specs.Numbers.{deliveryNo}
-use Rattle.deliver.specs.Deliver.{refuse, noteAnswer, noted, framesTaken, absorb, marked, accept, fromHeader, deliverForm, deliverBy, deliver}
+use Rattle.deliver.specs.Deliver.{deliver}
+use Rattle.deliver.proofs.Computing.{delivering}
 
 -- what a delivery did: its answer, the counters, and whether seat 1's frame for a tick is held afterwards
 record Shown : Type 0 where
@@ -91,7 +83,7 @@ last-notes :
     ∷ did Accepted 1 0 0 1 true
     ∷ did Accepted 1 0 1 0 true
     ∷ []
-unfolding if_then_else_ outside raised has setOf firstSeats adding validity badState rosterOf inputsForm bodyForm formOf freshWindow heldBy isHeld frameOf written writeFrame sameBytes absorbOne frameAt absorbFirst absorbInputs raisedIf noStats countedOf repeatedOf fresh opened refuse noteAnswer noted framesTaken absorb marked accept fromHeader deliverForm deliverBy deliver shown did pair send new one two
+unfolding delivering shown did pair send new one two
 last-notes = refl
 
 -- 29 comes before any frame: none is written, repeated, contradicted or out of the window
@@ -104,7 +96,7 @@ other-width :
     ∷ did (Refused (WrongWidth 2 1)) 1 0 0 0 true
     ∷ did (Refused (WrongWidth 2 1)) 1 0 0 0 false
     ∷ []
-unfolding if_then_else_ outside raised has setOf firstSeats adding validity badState rosterOf inputsForm bodyForm formOf freshWindow heldBy isHeld frameOf written writeFrame sameBytes absorbOne frameAt absorbFirst absorbInputs raisedIf noStats countedOf repeatedOf fresh opened refuse noteAnswer noted framesTaken absorb marked accept fromHeader deliverForm deliverBy deliver shown did pair send new one two
+unfolding delivering shown did pair send new one two
 other-width = refl
 
 -- the answer, and the seats that are marked as playing
@@ -118,5 +110,5 @@ marks :
     ∷ marked-by (send new 0 2 1 (66 ∷ []))
     ∷ []
     ≡ (27 ∷ 2 ∷ []) ∷ (29 ∷ 2 ∷ []) ∷ (21 ∷ 0 ∷ []) ∷ []
-unfolding if_then_else_ outside raised has setOf firstSeats adding validity badState rosterOf inputsForm bodyForm formOf freshWindow heldBy isHeld frameOf written writeFrame sameBytes absorbOne frameAt absorbFirst absorbInputs raisedIf noStats countedOf repeatedOf fresh opened refuse noteAnswer noted framesTaken absorb marked accept fromHeader deliverForm deliverBy deliver pair send new marked-by
+unfolding delivering pair send new marked-by
 marks = refl

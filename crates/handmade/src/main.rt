@@ -88,8 +88,8 @@ fn steps_elsewhere() -> Session {
     }
 }
 
-// One's own cell 3 holds a print of tick 100, which belongs in cell 4. Cell 9 holds tick 9, of which seat 2 has another state, and seat 0's cell 9
-// holds tick 25. The owed print is of a tick that no cell holds.
+// One's own cell 3 holds a print of tick 100, which belongs in cell 4. Cell 9 holds tick 9, of which seat 2 has another
+// state, and seat 0's cell 9 holds tick 25. The owed print is of a tick that no cell holds.
 fn prints_astray() -> Session {
     let b = base();
     let mut p = b.prints;

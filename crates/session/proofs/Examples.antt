@@ -6,28 +6,18 @@ use mathlib.Core.Path.{_≡_, refl}
 use mathlib.Core.Bool.{Bool, true, false}
 use mathlib.Core.List.{List, [], _∷_}
 use lib.ListN.{replicate}
-use Rattle.logic.specs.Test.{if_then_else_}
-use Rattle.logic.specs.Range.{outside}
-use Rattle.logic.specs.Saturating.{raised}
-use Rattle.logic.specs.Tabulate.{tabulate}
-use Rattle.hash.specs.Fnv.{fnv, leBytes}
-use Rattle.peer.specs.Seats.{has, setOf, every, firstSeats, adding, removing, isSubset}
-use Rattle.params.specs.Params.{validity, badState, rosterOf, remotesOf}
 use Rattle.params.specs.declared.SessionParams.{SessionParams}
-use Rattle.window.specs.Window.{freshWindow, heldBy, isHeld, frameOf, written, writeFrame}
-use Rattle.rows.specs.Rows.{padded, rowsOf, heads, stepDigest}
-use Rattle.fingerprint.specs.Cells.{ownCell, remoteCell, noPrints, cellAt, storedAt, own, remote, withOwn, ofTick, ownFor, remoteFor}
-use Rattle.fingerprint.specs.Judging.{agrees, allAgree, partedBy, parted}
-use Rattle.stats.specs.Stats.{noStats}
+use Rattle.window.specs.Window.{writeFrame}
 use Rattle.session.specs.declared.WorldDigest.{WorldDigest}
 use Rattle.session.specs.declared.WorldDigest.the-variants.{Absent, Present}
 use Rattle.session.specs.declared.Session.{Session}
 use Rattle.session.specs.declared.Advance.{Advance}
 use Rattle.session.specs.declared.Advance.the-variants as Advance′
 use Rattle.session.specs.declared.Advanced.{Advanced}
-use Rattle.session.specs.Session.{fresh, withHellos, withFrames, everySeatHeld, started}
-use Rattle.session.specs.Host.{opened, press, submitOpen, submitBy, submit}
-use Rattle.session.specs.Step.{takeStep, playOn, advanceBy, advanceFrom, advance, judge, keepDigest, commitFrom, commit}
+use Rattle.session.specs.Session.{withHellos, withFrames}
+use Rattle.session.specs.Host.{opened, submit}
+use Rattle.session.specs.Step.{advance, commit}
+use Rattle.session.proofs.Computing.{hosting}
 
 -- seat 0 of two, a byte a tick, a digest for every other one
 pair : SessionParams
@@ -76,5 +66,5 @@ three-steps : shown first ∷ shown second ∷ shown third ∷ []
     ∷ stepped 1 false 0x43 0x44 17649756686429412404
     ∷ stepped 2 true 0x45 0x46 4997215071877954205
     ∷ []
-unfolding if_then_else_ outside raised tabulate fnv leBytes has setOf every firstSeats adding removing isSubset validity badState rosterOf remotesOf freshWindow heldBy isHeld frameOf written writeFrame padded rowsOf heads stepDigest ownCell remoteCell noPrints cellAt storedAt own remote withOwn ofTick ownFor remoteFor agrees allAgree partedBy parted noStats fresh everySeatHeld started opened press submitOpen submitBy submit takeStep playOn advanceBy advanceFrom advance judge keepDigest commitFrom commit pair greeted both first second third shown stepped
+unfolding hosting pair greeted both first second third shown stepped
 three-steps = refl

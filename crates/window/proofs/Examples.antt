@@ -1,5 +1,5 @@
--- Examples at both sides of the window's limits, and of the slips that document 01 excludes, computed from the definitions. P2 to P6 stand
--- here as one message does them; the cases themselves are proved in the crate `cases`.
+-- Examples at both sides of the window's limits, and of the slips that document 01 excludes, computed from the
+-- definitions. P2 to P6 stand here as one message does them; the cases themselves are proved in the crate `cases`.
 -- Assumes nothing.
 use Prim.Native.Nat.{ℕ}
 use mathlib.Core.Path.{_≡_, refl}
@@ -14,6 +14,12 @@ use Rattle.window.specs.declared.Window.{Window}
 use Rattle.window.specs.declared.Note.{Note}
 use Rattle.window.specs.declared.Note.the-variants.{Nothing, OutOfWindow, Contradiction}
 use Rattle.window.specs.declared.Absorbed.{Absorbed}
+
+-- what a message's frames compute with, as one name to unfold
+absorbing : Unit {0}
+unfolding freshWindow has setOf adding heldBy isHeld frameOf written writeFrame raised sameBytes
+    absorbOne frameAt absorbFirst absorbInputs if_then_else_
+absorbing = tt
 
 -- what a message did: its last note, whether a frame was written, and the repeats
 record Shown : Type 0 where
@@ -60,7 +66,7 @@ cases :
     ∷ did Nothing false 0
     ∷ did Nothing true 0
     ∷ []
-unfolding freshWindow has setOf adding heldBy isHeld frameOf written writeFrame raised sameBytes absorbOne frameAt absorbFirst absorbInputs shown did send after if_then_else_
+unfolding absorbing shown did send after
 cases = refl
 
 -- Only the last note counts. A message's ticks rise, so what is out of the window comes after all else: the notes can
@@ -83,5 +89,5 @@ last-notes :
     ∷ did (OutOfWindow 64 0) true 0
     ∷ did (OutOfWindow 64 0) true 0
     ∷ []
-unfolding freshWindow has setOf adding heldBy isHeld frameOf written writeFrame raised sameBytes absorbOne frameAt absorbFirst absorbInputs shown did send after two if_then_else_
+unfolding absorbing shown did send after two
 last-notes = refl

@@ -34,5 +34,7 @@ loop-again c = search needs
 pub main-spec : {M : Type 1} → statement M
 main-spec =
     tie.close
-    (tie.spec Inv-loop μ-loop (search needs) loop-holds slice-aggregate-take-turn take-turn-requires sub-turns loop-less loop-again (search needs)
+    (tie.spec Inv-loop μ-loop
+    (search needs) loop-holds slice-aggregate-take-turn take-turn-requires sub-turns loop-less loop-again
+    (search needs)
     (search needs))

@@ -11,5 +11,6 @@ slice-aggregate-answer c = sym (length-take-le _ _ (search needs))
 pub take-turn-spec : {M : Type 1} → statement M
 take-turn-spec =
     tie.close
-    (tie.spec (search needs) (search needs) (search needs) (search needs) (search needs) (search needs) (search needs) (search needs) (search needs)
+    (tie.spec (search needs) (search needs) (search needs) (search needs) (search needs) (search needs) (search needs)
+    (search needs) (search needs)
     (search needs) slice-aggregate-answer (search needs) (search needs) (search needs) (search needs) (search needs))

@@ -34,4 +34,6 @@ returns : tie.Need-returns Inv-loop μ-loop
 returns c = tt
 
 pub changed-spec : {M : Type 1} → statement M
-changed-spec = tie.close (tie.spec Inv-loop μ-loop loop-holds shared-slice-read-if1 raise-requires add-i loop-less loop-again returns)
+changed-spec =
+    tie.close
+    (tie.spec Inv-loop μ-loop loop-holds shared-slice-read-if1 raise-requires add-i loop-less loop-again returns)

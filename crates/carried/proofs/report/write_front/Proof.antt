@@ -9,4 +9,5 @@ slice-aggregate-write-report : tie.Need-slice-aggregate-write-report
 slice-aggregate-write-report c = sym (length-take-le _ _ (c .before .before .pre))
 
 pub write-front-spec : {M : Type 1} → statement M
-write-front-spec = tie.close (tie.spec (search needs) slice-aggregate-write-report (search needs) (search needs) (search needs))
+write-front-spec =
+    tie.close (tie.spec (search needs) slice-aggregate-write-report (search needs) (search needs) (search needs))
