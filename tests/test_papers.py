@@ -1,4 +1,5 @@
-"""What docs/RULES.md points at is there: definitions, laws, functions, tests, files, and the wrong programs that any paper names."""
+"""What docs/RULES.md points at is there: definitions, laws, functions, tests, files, and the wrong programs that any
+paper names."""
 
 import pathlib
 import re
@@ -17,10 +18,9 @@ PLACED = re.compile(r"((?:`[^`]+`(?: and |, | )*)+)(?:of|in) ([a-z_]+/(?:specs|p
 
 
 def cells():
-    """What stands in the second column, with its line's number."""
-    for at, line in enumerate(PAGE.read_text().splitlines(), 1):
-        if line.startswith("| ") and line.endswith(" |") and not line.startswith("| sentence"):
-            yield at, line.rsplit(" | ", 1)[1].removesuffix(" |")
+    """What stands below each sentence, unwrapped, with the number of its first line."""
+    for entry in re.finditer(r"^  - .*(?:\n    .*)*", PAGE.read_text(), re.M):
+        yield PAGE.read_text().count("\n", 0, entry.start()) + 1, " ".join(entry.group().removeprefix("  - ").split())
 
 
 def has(text, name):
@@ -61,7 +61,7 @@ class Rules(unittest.TestCase):
         }
         count = 0
         for page in sorted(TOP.glob("docs/**/*.md")):
-            for run in re.findall(r"wrong programs? ((?:\w+/\w+(?:, | and )?)+)", page.read_text()):
+            for run in re.findall(r"wrong programs? ((?:\w+/\w+(?:, | and )?)+)", " ".join(page.read_text().split())):
                 for name in re.findall(r"\w+/\w+", run):
                     count += 1
                     self.assertTrue(name in known, f"{page.name}: no wrong program {name}")
