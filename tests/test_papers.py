@@ -1,5 +1,5 @@
-"""What docs/RULES.md points at is there: definitions, laws, functions, tests, files, and the wrong programs that any
-paper names."""
+"""What docs/RULES.md points at is there: definitions, laws, functions, tests, files; and so are the wrong programs and
+the parts of other papers that any paper names."""
 
 import pathlib
 import re
@@ -77,6 +77,19 @@ class Rules(unittest.TestCase):
         for at, cell in cells():
             for file in re.findall(r"(?<![\w/])((?:docs|tools|tests|oracle)/[\w.-]+)", cell):
                 self.assertTrue((TOP / file.rstrip(".")).exists(), f"line {at}: {file}")
+
+
+class Parts(unittest.TestCase):
+    def test_parts_that_a_paper_sends_to_are_there(self):
+        count = 0
+        for page in sorted([*TOP.glob("*.md"), *TOP.glob("docs/**/*.md")]):
+            text = " ".join(page.read_text().split())
+            for name, part, point in re.findall(r'(docs/[A-Z]+\.md)`?, (?:"([^"]+)"|open point (\d+))', text):
+                count += 1
+                head = rf"\#+ {re.escape(part)}$|- \*\*{re.escape(part)}[.*]" if part else rf"{point}\. \*\*"
+                found = re.search(f"^(?:{head})", (TOP / name).read_text(), re.M)
+                self.assertTrue(found, f"{page.name}: no {part or point} in {name}")
+        self.assertGreater(count, 15)
 
 
 class Names(unittest.TestCase):
