@@ -1,19 +1,20 @@
 -- A delivery keeps the facts, where the message is one of which the facts hold.
 -- Assumes nothing.
-use Prim.Native.Nat.{ℕ, zero, suc, _+_, _-_, _*_, _≤_, _<_}
+use Prim.Native.Nat.{ℕ, zero, suc, _+_, _*_, _≤_, _<_}
 use mathlib.Core.Path.{_≡_, refl, sym, ap, subst, _∙_}
 use mathlib.Core.Logic.{_≢_}
-use mathlib.Core.Bool.{Bool, true, false, not}
+use mathlib.Core.Bool.{Bool}
 use mathlib.Core.List.{List}
 use native.Mathlib.Nat.{mul-le-mul-right, suc-mul}
 use native.Mathlib.Omega.{arith}
-use lib.Dec.{eqb}
-use lib.ListN.{length, take, drop, length-drop}
+use lib.ListN.{length, drop, length-drop}
 use lib.Seq.{length-take-le}
 use borrow.Author.Tests.{eqb-true, eqb-false, ltb-true, not-false}
+use Rattle.logic.specs.Saturating.{most, sum}
 use Rattle.logic.proofs.Cases.{byTest}
-use Rattle.peer.specs.Seats.{seats, has}
-use Rattle.params.specs.Params.{maxWidth, rosterOf, remotesOf}
+use Rattle.logic.proofs.Sums.{sum-fits}
+use Rattle.peer.specs.Seats.{seats}
+use Rattle.params.specs.Params.{maxWidth}
 use Rattle.params.specs.declared.SessionParams.{SessionParams}
 use Rattle.params.proofs.Laws.{Sound, sound, has-roster}
 use Rattle.wire.specs.declared.Body.{Body}
@@ -24,11 +25,9 @@ use Rattle.wire.specs.declared.HelloBody.{HelloBody}
 use Rattle.wire.specs.declared.Message.{Message}
 use Rattle.wire.specs.declared.Form.{Form}
 use Rattle.wire.specs.declared.Form.the-variants as Form′
-use Rattle.wire.specs.Wire.{inputsForm, bodyForm, formOf}
+use Rattle.wire.specs.Wire.{bodyForm, formOf}
 use Rattle.wire.proofs.Laws.{good-header, good-inputs}
-use Rattle.window.specs.Absorb.{noted, repeats, stores, absorbOne, frameAt, untouched, absorbFirst, absorbInputs}
-use Rattle.window.specs.declared.Window.{Window}
-use Rattle.window.specs.declared.Absorbed.{Absorbed}
+use Rattle.window.specs.Absorb.{Absorbed, noted, absorbOne, frameAt, untouched, absorbFirst, absorbInputs}
 use Rattle.window.specs.declared.Note.{Note}
 use Rattle.window.specs.declared.Note.the-variants as Note′
 use Rattle.window.proofs.Absorbing.{absorb-cases}
@@ -38,43 +37,50 @@ use Rattle.fingerprint.specs.declared.Cell.the-variants.{Holds}
 use Rattle.fingerprint.specs.declared.Arrival.{Arrival}
 use Rattle.fingerprint.specs.declared.Arrival.the-variants.{New, Repeated, Contradicted}
 use Rattle.fingerprint.proofs.Laws.{Stored, fresh, older, withRemote-sized, remoteFor-stored, ownFor-remote}
-use Rattle.session.specs.declared.Outcome.{Outcome}
-use Rattle.session.specs.declared.Outcome.the-variants.{Desynced, PeerLeft}
+use Rattle.session.specs.declared.Outcome.the-variants.{PeerLeft}
 use Rattle.session.specs.declared.Standing.{Standing}
 use Rattle.session.specs.declared.Standing.the-variants.{Open, Over}
 use Rattle.session.specs.declared.Session.{Session}
-use Rattle.session.specs.Session.{withRemotePrint}
+use Rattle.session.specs.Session.{withHead}
 use Rattle.deliver.specs.declared.Refusal.{Refusal}
 use Rattle.deliver.specs.declared.Delivered.{Delivered}
-use Rattle.deliver.specs.Deliver.{refuse, endWith, acceptHello, noteAnswer, framesTaken, absorb, printOf, judged}
-use Rattle.deliver.specs.Deliver.{hearBy, hear, marked, accept, fromHeader, deliverForm, deliverBy, deliver}
+use Rattle.deliver.specs.declared.HeadDelivered.{HeadDelivered}
+use Rattle.deliver.specs.Deliver.{refused, endWith, greeted, acceptHello, marked, noteAnswer, framesNoted, framesTaken}
+use Rattle.deliver.specs.Deliver.{absorb, printOf, judged, withPrint, hearBy, hear, accept, fromHeader}
+use Rattle.deliver.specs.Deliver.{deliverForm, deliverBy, deliver}
 use Rattle.deliver.specs.Deliver as Calls
-use Rattle.agreement.specs.World.{seated, Mail}
+use Rattle.agreement.specs.World.{seated}
 use Rattle.agreement.specs.Demand.{Valid, Pressed, Said, AgreeAt}
-use Rattle.agreement.proofs.Facts.{Log, RingFacts, Base, SessOk, BodyOk}
+use Rattle.agreement.proofs.Facts.{pendingOf, Log, RingFacts, Base, SessOk, BodyOk}
 use Rattle.agreement.proofs.Submit.{start-ok, write-ok}
 use Rattle.agreement.proofs.Judge.{ended-ok, judged-ok, parted-ok}
 
 -- ---- what changes no fact
 
-pub refuse-ok : {p : SessionParams} {log : Log} {i : ℕ} (s : Session) (r : Refusal) → SessOk p log i s
-    → SessOk p log i (refuse s r .session)
-unfolding refuse
-refuse-ok s r h = record { base = h .base; agree = h .agree }
+refused-ok : {p : SessionParams} {log : Log} {i : ℕ} (s : Session) (r : Refusal) → SessOk p log i s
+    → SessOk p log i (withHead s (refused (s .head) r .head))
+unfolding refused
+refused-ok s r h = record { base = h .base; agree = h .agree }
 
 marked-ok : {p : SessionParams} {log : Log} {i : ℕ} (s : Session) (k : ℕ) → SessOk p log i s
-    → SessOk p log i (marked s k)
+    → SessOk p log i (withHead s (marked (s .head) k))
 unfolding marked
 marked-ok s k h = record { base = h .base; agree = h .agree }
 
+greeted-ok : {p : SessionParams} {log : Log} {i : ℕ} (s : Session) (k : ℕ) → SessOk p log i s
+    → SessOk p log i (withHead s (greeted (s .head) k))
+unfolding greeted
+greeted-ok s k h = record { base = h .base; agree = h .agree }
+
 note-ok : {p : SessionParams} {log : Log} {i : ℕ} (s : Session) (r : Refusal) (wrote : Bool) → SessOk p log i s
-    → SessOk p log i (noteAnswer (refuse s r) wrote .session)
+    → SessOk p log i (withHead s (noteAnswer (refused (s .head) r) wrote .head))
 unfolding noteAnswer
 note-ok {p} {log} {i} s r wrote h =
-    byTest (λ (d : Delivered). SessOk p log i (d .session)) (λ _. refuse-ok s r h) (λ _. refuse-ok s r h)
+    byTest (λ (d : HeadDelivered). SessOk p log i (withHead s (d .head))) (λ _. refused-ok s r h)
+    (λ _. refused-ok s r h)
 
 noted-ok : {p : SessionParams} {log : Log} {i : ℕ} (s : Session) (n : Note) (wrote : Bool) → SessOk p log i s
-    → SessOk p log i (Calls.noted s n wrote .session)
+    → SessOk p log i (withHead s (Calls.noted (s .head) n wrote .head))
 unfolding Calls.noted
 noted-ok s Note′.Nothing wrote h = h
 noted-ok s (Note′.OutOfWindow tick pending) wrote h = note-ok s _ wrote h
@@ -100,13 +106,14 @@ module _ (p : SessionParams) (log : Log) (k : ℕ) (low : k < seats) (short : p 
       (λ _ _ _. write-ok p log (a .window) k tick v low short few lv x h)
 
   first-ok : (a : Absorbed) (pending first w c : ℕ) (run : List ℕ) (n : ℕ) → n ≤ c → w ≡ p .width → length run ≡ c * w
-      → ((j : ℕ) → j < c → Pressed log k (first + j) (frameAt run w j)) → RingFacts p log (a .window)
+      → first + c ≤ most → ((j : ℕ) → j < c → Pressed log k (first + j) (frameAt run w j)) → RingFacts p log (a .window)
       → RingFacts p log (absorbFirst a pending k first w run n .window)
   unfolding absorbFirst
-  first-ok a pending first w c run zero l ew lr x h = h
-  first-ok a pending first w c run (suc n) l ew lr x h =
-      one-ok _ pending (first + n) (frameAt run w n) (frame-whole run w c n lr l ∙ ew) (x n l)
-      (first-ok a pending first w c run n (omega arith) ew lr x h)
+  first-ok a pending first w c run zero l ew lr fits x h = h
+  first-ok a pending first w c run (suc n) l ew lr fits x h =
+      let at : sum first n ≡ first + n = sum-fits first n (omega arith) in
+      one-ok _ pending (sum first n) (frameAt run w n) (frame-whole run w c n lr l ∙ ew) (rw at (x n l))
+      (first-ok a pending first w c run n (omega arith) ew lr fits x h)
 
 module _ (p : SessionParams) (valid : Valid p) (log : Log) (i k : ℕ) (li : i < p .count) (lk : k < p .count)
     (nk : k ≢ i) where
@@ -117,18 +124,18 @@ module _ (p : SessionParams) (valid : Valid p) (log : Log) (i k : ℕ) (li : i <
   low = omega (arith, ok .count .greatest)
 
   inputs-ok : (s : Session) (b : InputsBody) (run : List ℕ) → length run ≡ b .count * b .width
-      → BodyOk log k (Body′.Inputs b) run → SessOk p log i s
+      → b .first + b .count ≤ most → BodyOk log k (Body′.Inputs b) run → SessOk p log i s
       → SessOk p log i (absorb s k b run .session)
-  unfolding absorb framesTaken absorbInputs
-  inputs-ok s b run lr x h =
+  unfolding absorb framesTaken framesNoted absorbInputs
+  inputs-ok s b run lr fits x h =
       byTest (λ (d : Delivered). SessOk p log i (d .session))
       (λ e.
       let ew : b .width ≡ p .width =
-      eqb-true (b .width) (s .params .width) e ∙ ap (λ (q : SessionParams). q .width) (h .base .par) in
+      eqb-true (b .width) (s .head .params .width) e ∙ ap (λ (q : SessionParams). q .width) (h .base .par) in
       let f = h .base in
-      let ring = first-ok p log k low (ok .width .greatest) (ok .count .greatest)
-      (untouched (s .window) (s .stats .«frames_repeated»)) (s .pending) (b .first) (b .width) (b .count) run
-      (b .count) (omega arith) ew lr x (f .ring) in
+      let start = untouched (s .window) (s .head .stats .«frames_repeated») in
+      let ring = first-ok p log k low (ok .width .greatest) (ok .count .greatest) start (pendingOf s) (b .first)
+      (b .width) (b .count) run (b .count) (omega arith) ew lr fits x (f .ring) in
       noted-ok _ _ _ (record {
         base =
             record {
@@ -142,12 +149,12 @@ module _ (p : SessionParams) (valid : Valid p) (log : Log) (i k : ℕ) (li : i <
             };
         agree = h .agree;
       }))
-      (λ _. refuse-ok s _ h)
+      (λ _. refused-ok s _ h)
 
   -- ---- a Digest
 
   judge-ok : (s : Session) (t : ℕ) → Base p log i s
-      → (s .outcome ≡ Open → (t′ : ℕ) → t′ ≢ t → AgreeAt (p .count) i (s .prints) t′)
+      → (s .head .outcome ≡ Open → (t′ : ℕ) → t′ ≢ t → AgreeAt (p .count) i (s .prints) t′)
       → SessOk p log i (judged s t .session)
   unfolding judged endWith
   judge-ok s t b a =
@@ -155,10 +162,10 @@ module _ (p : SessionParams) (valid : Valid p) (log : Log) (i k : ℕ) (li : i <
       (λ e. judged-ok (ok .count .greatest) s t b a e)
 
   store-ok : (s : Session) (f : Fingerprint) → Said log k (f .tick) (f .state) → SessOk p log i s
-      → SessOk p log i (judged (withRemotePrint s k f) (f .tick) .session)
+      → SessOk p log i (judged (withPrint s k f) (f .tick) .session)
   store-ok s f x h =
       let b = h .base in
-      judge-ok (withRemotePrint s k f) (f .tick)
+      judge-ok (withPrint s k f) (f .tick)
       (record {
         par = b .par;
         ring = b .ring;
@@ -182,8 +189,8 @@ module _ (p : SessionParams) (valid : Valid p) (log : Log) (i k : ℕ) (li : i <
       other j t q l (fresh a c) = rw (a .0, a .1, c) x
       other j t q l (older c) = h .base .prints .other j t q l c
 
-      agree : s .outcome ≡ Open → (t : ℕ) → t ≢ f .tick → (j : ℕ) (mine theirs : Fingerprint) → j < p .count → j ≢ i
-          → ownFor (s .prints) t ≡ Holds mine
+      agree : s .head .outcome ≡ Open → (t : ℕ) → t ≢ f .tick → (j : ℕ) (mine theirs : Fingerprint)
+          → j < p .count → j ≢ i → ownFor (s .prints) t ≡ Holds mine
           → Stored ((j ≡ k) × (t ≡ f .tick)) f theirs (remoteFor (s .prints) j t) → mine .state ≡ theirs .state
       agree o t n j mine theirs l m y (fresh a c) = absurd (n (a .1))
       agree o t n j mine theirs l m y (older c) = h .agree o t j mine theirs l m y c
@@ -191,28 +198,30 @@ module _ (p : SessionParams) (valid : Valid p) (log : Log) (i k : ℕ) (li : i <
   hear-ok : (s : Session) (d : DigestBody) (a : Arrival) → Said log k (d .tick) (d .state) → SessOk p log i s
       → SessOk p log i (hearBy s k d a .session)
   unfolding hearBy
-  hear-ok s d Contradicted x h = refuse-ok s _ h
+  hear-ok s d Contradicted x h = refused-ok s _ h
   hear-ok s d Repeated x h = h
   hear-ok s d New x h = store-ok s (printOf d) x h
 
   -- ---- every kind
 
-  hello-ok : (s : Session) (b : HelloBody) → SessOk p log i s → SessOk p log i (acceptHello s k b .session)
+  hello-ok : (s : Session) (b : HelloBody) → SessOk p log i s
+      → SessOk p log i (withHead s (acceptHello (s .head) k b .head))
   unfolding acceptHello
   hello-ok s b h =
-      byTest (λ (d : Delivered). SessOk p log i (d .session))
-      (λ _. start-ok _ (record { base = h .base; agree = h .agree })) (λ _. refuse-ok s _ h)
+      byTest (λ (d : HeadDelivered). SessOk p log i (withHead s (d .head))) (λ _. start-ok _ (greeted-ok s k h))
+      (λ _. refused-ok s _ h)
 
   accept-ok : (s : Session) (b : Body) (run : List ℕ) → bodyForm b (length run) ≡ Form′.Good → BodyOk log k b run
       → SessOk p log i s → SessOk p log i (accept s k b run .session)
   unfolding accept bodyForm hear endWith
   accept-ok s (Body′.Hello b) run g x h = hello-ok s b h
   accept-ok s (Body′.Inputs b) run g x h =
-      inputs-ok (marked s k) b run (good-inputs b (length run) g .long) x (marked-ok s k h)
-  accept-ok s (Body′.Digest d) run g x h = hear-ok (marked s k) d _ x (marked-ok s k h)
+      let good = good-inputs b (length run) g in
+      inputs-ok (withHead s (marked (s .head) k)) b run (good .long) (good .ticks) x (marked-ok s k h)
+  accept-ok s (Body′.Digest d) run g x h = hear-ok (withHead s (marked (s .head) k)) d _ x (marked-ok s k h)
   accept-ok s (Body′.Bye b) run g x h =
       ended-ok s (PeerLeft k (b .tick)) (λ t e. absurd (let z : _≡_ {A = ℕ} 0 1 = cc in omega arith)) (h .base)
-  accept-ok s (Body′.Other kind) run g x h = refuse-ok s _ h
+  accept-ok s (Body′.Other kind) run g x h = refused-ok s _ h
 
 module _ (p : SessionParams) (valid : Valid p) (log : Log) (i : ℕ) (li : i < p .count) (s : Session) (source : ℕ)
     (m : Message) (run : List ℕ)
@@ -223,22 +232,22 @@ module _ (p : SessionParams) (valid : Valid p) (log : Log) (i : ℕ) (li : i < p
   header-ok : m .sender < seats → bodyForm (m .body) (length run) ≡ Form′.Good → Kept (fromHeader s source m run)
   unfolding fromHeader
   header-ok low good =
-      byTest Kept (λ _. refuse-ok s _ h)
-      (λ _. byTest Kept (λ _. refuse-ok s _ h)
-      (λ _. byTest Kept (λ _. refuse-ok s _ h)
-      (λ other. byTest Kept (λ _. refuse-ok s _ h)
+      byTest Kept (λ _. refused-ok s _ h)
+      (λ _. byTest Kept (λ _. refused-ok s _ h)
+      (λ _. byTest Kept (λ _. refused-ok s _ h)
+      (λ other. byTest Kept (λ _. refused-ok s _ h)
       (λ inside.
       let par = h .base .par in
-      let l = ltb-true (m .sender) (s .params .count)
-      (sym (has-roster (s .params) (m .sender) low) ∙ not-false _ inside) in
+      let l = ltb-true (m .sender) (s .head .params .count)
+      (sym (has-roster (s .head .params) (m .sender) low) ∙ not-false _ inside) in
       let n : m .sender ≢ i =
-      λ q. eqb-false (m .sender) (s .params .local) other (q ∙ sym (ap (λ (y : SessionParams). y .local) par)) in
+      λ q. eqb-false (m .sender) (s .head .params .local) other (q ∙ sym (ap (λ (y : SessionParams). y .local) par)) in
       accept-ok p valid log i (m .sender) li (subst (λ (y : SessionParams). m .sender < y .count) par l) n s
       (m .body) run good x h))))
 
   form-ok : (f : Form) → formOf m run ≡ f → Kept (deliverForm s source m run f)
   unfolding deliverForm
-  form-ok (Form′.Malformed e) q = refuse-ok s _ h
+  form-ok (Form′.Malformed e) q = refused-ok s _ h
   form-ok Form′.Good q = let g = good-header m run q in header-ok (g .sender) (g .body)
 
   standing-ok : (o : Standing) → Kept (deliverBy s source m run o)
@@ -248,4 +257,4 @@ module _ (p : SessionParams) (valid : Valid p) (log : Log) (i : ℕ) (li : i < p
 
   pub deliver-ok : Kept (deliver s source m run)
   unfolding deliver
-  deliver-ok = byTest Kept (λ _. h) (λ _. standing-ok (s .outcome))
+  deliver-ok = byTest Kept (λ _. h) (λ _. standing-ok (s .head .outcome))

@@ -31,6 +31,13 @@ use Rattle.session.specs.declared.Session.{Session}
 use Rattle.agreement.specs.World.{seated, Mail, Event, pressed, stepped, committed, Turn, World}
 use Rattle.agreement.specs.Demand.{Pressed, Said, presses, Few, Differ, AgreeAt}
 
+-- the next local tick, and the pending one
+abbrev pub nextOf : Session → ℕ
+nextOf s = s .head .play .«next_local»
+
+abbrev pub pendingOf : Session → ℕ
+pendingOf s = s .head .play .pending
+
 abbrev pub Log : Type 0
 Log = List Event
 
@@ -84,17 +91,17 @@ OutFacts p log i o = (tick : ℕ) → o ≡ Over (Desynced tick) → Differ p lo
 abbrev pub Base : SessionParams → Log → ℕ → Session → Type 0
 Base p log i s =
     record {
-      par : s .params ≡ seated p i;
+      par : s .head .params ≡ seated p i;
       ring : RingFacts p log (s .window);
-      next : NextFacts log i (s .next);
-      fold : FoldFacts p log (s .pending) (s .step) (s .digest);
-      prints : PrintFacts p log i (s .prints) (s .owed);
-      said : SaidFacts log i (s .pending);
-      out : OutFacts p log i (s .outcome);
+      next : NextFacts log i (nextOf s);
+      fold : FoldFacts p log (pendingOf s) (s .head .play .step) (s .head .play .digest);
+      prints : PrintFacts p log i (s .prints) (s .head .owed);
+      said : SaidFacts log i (pendingOf s);
+      out : OutFacts p log i (s .head .outcome);
     }
 
 abbrev pub Agrees : SessionParams → ℕ → Session → Type 0
-Agrees p i s = s .outcome ≡ Open → (tick : ℕ) → AgreeAt (p .count) i (s .prints) tick
+Agrees p i s = s .head .outcome ≡ Open → (tick : ℕ) → AgreeAt (p .count) i (s .prints) tick
 
 -- a session at seat i, against the log
 pub record SessOk (p : SessionParams) (log : Log) (i : ℕ) (s : Session) : Type 0 where

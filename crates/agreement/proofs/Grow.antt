@@ -92,7 +92,7 @@ module _ {log longer : Log} (up : Sub log longer) where
 
 -- with no new press of its seat, and its commits still below its pending tick
 pub sess-up : {p : SessionParams} {log longer : Log} {i : ℕ} {s : Session} → Unpressed i log longer
-    → SaidFacts longer i (s .pending)
+    → SaidFacts longer i (s .head .play .pending)
     → SessOk p log i s → SessOk p longer i s
 sess-up {p} {log} {longer} {i} {s} g said h =
     let up = g .keep in
@@ -103,7 +103,7 @@ sess-up {p} {log} {longer} {i} {s} g said h =
             par = b .par;
             ring = ring-up up (b .ring);
             next = record { below = λ t v x. b .next .below t v (g .back t v x); many = g .count ∙ b .next .many };
-            fold = fold-up up p (s .pending) (s .step) (s .digest) (b .fold);
+            fold = fold-up up p (s .head .play .pending) (s .head .play .step) (s .head .play .digest) (b .fold);
             prints = prints-up up (b .prints);
             said = said;
             out = out-up up (b .out);

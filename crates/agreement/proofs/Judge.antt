@@ -1,9 +1,9 @@
 -- Judging keeps the facts, and restores the agreement at the tick that it judges.
 -- Assumes nothing.
 use Prim.Native.Nat.{ℕ, _≤_, _<_}
-use mathlib.Core.Path.{_≡_, refl, sym, ap, subst, _∙_}
+use mathlib.Core.Path.{_≡_, sym, ap, _∙_}
 use mathlib.Core.Logic.{_≢_}
-use mathlib.Core.Bool.{Bool, true, false, true≢false, _&&_, not}
+use mathlib.Core.Bool.{true, false, _&&_, not}
 use native.Mathlib.Omega.{arith}
 use lib.Dec.{eqb, ltb}
 use borrow.Author.Tests.{lt-ltb, ne-eqb, eqb-false, ltb-true, not-true}
@@ -13,15 +13,14 @@ use Rattle.params.specs.Params.{remotesOf}
 use Rattle.params.specs.declared.SessionParams.{SessionParams}
 use Rattle.params.proofs.Laws.{has-remotes}
 use Rattle.fingerprint.specs.Judging.{parted}
-use Rattle.fingerprint.proofs.Laws.{Parted, parted-true, parted-false}
+use Rattle.fingerprint.proofs.Laws.{parted-true, parted-false}
 use Rattle.session.specs.declared.Outcome.{Outcome}
 use Rattle.session.specs.declared.Outcome.the-variants.{Desynced}
 use Rattle.session.specs.declared.Standing.{Standing}
 use Rattle.session.specs.declared.Standing.the-variants.{Open, Over}
 use Rattle.session.specs.declared.Session.{Session}
-use Rattle.session.specs.Session.{over, ended}
+use Rattle.session.specs.Session.{withHead, over, ended}
 use Rattle.session.specs.Step.{judge}
-use Rattle.agreement.specs.World.{seated}
 use Rattle.agreement.specs.Demand.{Differ, AgreeAt}
 use Rattle.agreement.proofs.Facts.{Log, OutFacts, Base, SessOk}
 
@@ -39,7 +38,7 @@ over-out p log i (Over q) o h d t e = h t e
 
 module _ {p : SessionParams} {log : Log} {i : ℕ} where
   pub ended-ok : (s : Session) (o : Outcome) → ((t : ℕ) → o ≡ Desynced t → Differ p log i t) → Base p log i s
-      → SessOk p log i (ended s o)
+      → SessOk p log i (withHead s (ended (s .head) o))
   unfolding ended
   ended-ok s o d b = record {
     base =
@@ -50,30 +49,30 @@ module _ {p : SessionParams} {log : Log} {i : ℕ} where
           fold = b .fold;
           prints = b .prints;
           said = b .said;
-          out = over-out p log i (s .outcome) o (b .out) d;
+          out = over-out p log i (s .head .outcome) o (b .out) d;
         };
-    agree = λ e. absurd (over-not-open (s .outcome) o e);
+    agree = λ e. absurd (over-not-open (s .head .outcome) o e);
   }
 
   module _ (few : p .count ≤ seats) (s : Session) (t : ℕ) (b : Base p log i s) where
     -- a remote is another seat of the circle
-    remote-is : (k : ℕ) → k < seats → has (remotesOf (s .params)) k ≡ true → (k < p .count) × (k ≢ i)
+    remote-is : (k : ℕ) → k < seats → has (remotesOf (s .head .params)) k ≡ true → (k < p .count) × (k ≢ i)
     remote-is k l e =
         let q : ltb k (p .count) && not (eqb k i) ≡ true =
         sym (ap (λ (x : SessionParams). ltb k (x .count) && not (eqb k (x .local))) (b .par))
-        ∙ sym (has-remotes (s .params) k l) ∙ e in
+        ∙ sym (has-remotes (s .head .params) k l) ∙ e in
         let both = and-both _ _ q in
         (ltb-true k (p .count) (both .0), eqb-false k i (not-true _ (both .1)))
 
-    is-remote : (k : ℕ) → k < p .count → k ≢ i → has (remotesOf (s .params)) k ≡ true
+    is-remote : (k : ℕ) → k < p .count → k ≢ i → has (remotesOf (s .head .params)) k ≡ true
     is-remote k l n =
-        has-remotes (s .params) k (omega arith)
+        has-remotes (s .head .params) k (omega arith)
         ∙ ap (λ (x : SessionParams). ltb k (x .count) && not (eqb k (x .local))) (b .par)
         ∙ rw (lt-ltb k (p .count) l, ne-eqb k i n)
 
-    apart : parted (s .prints) (remotesOf (s .params)) t ≡ true → Differ p log i t
+    apart : parted (s .prints) (remotesOf (s .head .params)) t ≡ true → Differ p log i t
     apart e =
-        let d = parted-true (s .prints) (remotesOf (s .params)) t e in
+        let d = parted-true (s .prints) (remotesOf (s .head .params)) t e in
         let is = remote-is (d .seat) (d .low) (d .remote) in
         record {
           seat = d .seat;
@@ -86,19 +85,21 @@ module _ {p : SessionParams} {log : Log} {i : ℕ} where
           apart = λ q. d .apart (sym q);
         }
 
-    together : parted (s .prints) (remotesOf (s .params)) t ≡ false → AgreeAt (p .count) i (s .prints) t
+    together : parted (s .prints) (remotesOf (s .head .params)) t ≡ false → AgreeAt (p .count) i (s .prints) t
     together e k mine theirs l n x y =
-        sym (parted-false (s .prints) (remotesOf (s .params)) t e mine x k (omega arith) (is-remote k l n) theirs y)
+        let low : k < seats = omega arith in
+        sym (parted-false (s .prints) (remotesOf (s .head .params)) t e mine x k low (is-remote k l n) theirs y)
 
     -- agreement at every tick but t, and judged at t
-    pub judged-ok : (s .outcome ≡ Open → (t′ : ℕ) → t′ ≢ t → AgreeAt (p .count) i (s .prints) t′)
-        → parted (s .prints) (remotesOf (s .params)) t ≡ false → SessOk p log i s
+    pub judged-ok : (s .head .outcome ≡ Open → (t′ : ℕ) → t′ ≢ t → AgreeAt (p .count) i (s .prints) t′)
+        → parted (s .prints) (remotesOf (s .head .params)) t ≡ false → SessOk p log i s
     judged-ok a e = record { base = b; agree = λ o t′. caseEq t′ t (λ q. rw q (together e)) (λ n. a o t′ n) }
 
-    pub parted-ok : parted (s .prints) (remotesOf (s .params)) t ≡ true → SessOk p log i (ended s (Desynced t))
+    pub parted-ok : parted (s .prints) (remotesOf (s .head .params)) t ≡ true
+        → SessOk p log i (withHead s (ended (s .head) (Desynced t)))
     parted-ok e = ended-ok s (Desynced t) (λ t′ q. let same : t ≡ t′ = cc in rw (← same) (apart e)) b
 
-    pub judge-ok : (s .outcome ≡ Open → (t′ : ℕ) → t′ ≢ t → AgreeAt (p .count) i (s .prints) t′)
+    pub judge-ok : (s .head .outcome ≡ Open → (t′ : ℕ) → t′ ≢ t → AgreeAt (p .count) i (s .prints) t′)
         → SessOk p log i (judge s t)
     unfolding judge
     judge-ok a = byTest (SessOk p log i) (λ e. parted-ok e) (λ e. judged-ok a e)

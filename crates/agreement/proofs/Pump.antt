@@ -21,7 +21,6 @@ use Rattle.fingerprint.specs.declared.Cell.the-variants.{Empty, Holds}
 use Rattle.session.specs.declared.Emit.{Emit}
 use Rattle.session.specs.declared.Emit.the-variants as Emit′
 use Rattle.session.specs.declared.Session.{Session}
-use Rattle.session.specs.Session.{withEmit}
 use Rattle.pump.specs.declared.Outbound.{Outbound}
 use Rattle.pump.specs.declared.Outbound.the-variants.{Send, Nothing, BadState}
 use Rattle.pump.specs.declared.Pumped.{Pumped}
@@ -63,14 +62,15 @@ record Owed (c : Cell) (d : DigestBody) : Type 0 where
   tick : print .tick ≡ d .tick
   state : print .state ≡ d .state
 
-says-digest : (s : Session) (emit : Emit) (d : DigestBody) → saying s emit ≡ Says (Body′.Digest d) → Owed (s .owed) d
+says-digest : (s : Session) (emit : Emit) (d : DigestBody)
+    → saying (s .head) (s .window) emit ≡ Says (Body′.Digest d) → Owed (s .head .owed) d
 unfolding saying inputsOf digestOf
 says-digest s Emit′.Hello d e = let z : _≡_ {A = ℕ} 0 1 = cc in absurd (omega arith)
 says-digest s Emit′.Inputs d e =
-    byTest (λ (x : Saying). x ≡ Says (Body′.Digest d) → Owed (s .owed) d)
+    byTest (λ (x : Saying). x ≡ Says (Body′.Digest d) → Owed (s .head .owed) d)
     (λ _ q. let z : _≡_ {A = ℕ} 0 1 = cc in absurd (omega arith))
     (λ _ q. let z : _≡_ {A = ℕ} 0 1 = cc in absurd (omega arith)) e
-says-digest s Emit′.Digest d e = from (s .owed) e
+says-digest s Emit′.Digest d e = from (s .head .owed) e
   where
     from : (c : Cell) → digestOf c ≡ Says (Body′.Digest d) → Owed c d
     from Empty e = let z : _≡_ {A = ℕ} 0 1 = cc in absurd (omega arith)
@@ -79,11 +79,11 @@ says-digest s Emit′.Bye d e = let z : _≡_ {A = ℕ} 0 1 = cc in absurd (omeg
 says-digest s Emit′.Done d e = let z : _≡_ {A = ℕ} 0 1 = cc in absurd (omega arith)
 
 digest-sent : (s : Session) (k : ℕ) (m : Message) (d : DigestBody) → pump s .answer ≡ Send k m
-    → m .body ≡ Body′.Digest d → Owed (s .owed) d
+    → m .body ≡ Body′.Digest d → Owed (s .head .owed) d
 unfolding quiet passEnds send
 digest-sent s k m d = from (pump-is s)
   where
-    from : {r : Pumped} → Pumps s r → r .answer ≡ Send k m → m .body ≡ Body′.Digest d → Owed (s .owed) d
+    from : {r : Pumped} → Pumps s r → r .answer ≡ Send k m → m .body ≡ Body′.Digest d → Owed (s .head .owed) d
     from (refused bad) e q = let z : _≡_ {A = ℕ} 0 1 = cc in absurd (omega arith)
     from (ended good) e q = let z : _≡_ {A = ℕ} 0 1 = cc in absurd (omega arith)
     from (sends emit place j body good t h) e q =
@@ -93,7 +93,7 @@ digest-sent s k m d = from (pump-is s)
 -- ---- a pump keeps the facts
 
 module _ (p : SessionParams) (log : Log) (i : ℕ) (li : i < p .count) (s : Session) (h : SessOk p log i s) where
-  me : s .params .local ≡ i
+  me : s .head .params .local ≡ i
   me = ap (λ (x : SessionParams). x .local) (h .base .par)
 
   body-ok : (k : ℕ) (m : Message) → pump s .answer ≡ Send k m → (b : Body) → m .body ≡ b

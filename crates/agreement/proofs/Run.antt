@@ -17,7 +17,7 @@ use Rattle.window.proofs.Laws.{fresh-sized, fresh-holds}
 use Rattle.fingerprint.specs.Cells.{ownFor, noPrints}
 use Rattle.fingerprint.proofs.Laws.{new-sized, ownFor-new, remoteFor-new}
 use Rattle.session.specs.declared.Session.{Session}
-use Rattle.session.specs.Session.{fresh}
+use Rattle.session.specs.Session.{freshHead}
 use Rattle.session.specs.Host.{opened}
 use Rattle.agreement.specs.World.{seated, Mail, Call, submits, delivers, advances, commits, leaves, pumps, asks}
 use Rattle.agreement.specs.World.{Event, pressed, stepped, committed, World, Turn, deliverTurn, turn, seatOf}
@@ -45,7 +45,7 @@ presses-le (committed i t d ∷ new) log k = presses-le new log k
 
 module _ (p : SessionParams) (valid : Valid p) where
   fresh-ok : (i : ℕ) → SessOk p [] i (opened (seated p i) .session)
-  unfolding opened fresh presses
+  unfolding opened freshHead presses
   fresh-ok i = record {
     base =
         record {

@@ -51,7 +51,7 @@ committing ours theirs = delivers 1 0 ∷ pumps 0 ∷ commits 1 0 (Present their
 
 -- what was shown, newest first, and how the two sessions stand
 summary : List Call → List ℕ
-summary cs = let w = run pair cs in told (w .log) ++ ending (w .at 0 .outcome) ++ ending (w .at 1 .outcome)
+summary cs = let w = run pair cs in told (w .log) ++ ending (w .at 0 .head .outcome) ++ ending (w .at 1 .head .outcome)
 
 -- the step's digest, worked out apart: FNV-1a 64 of tick 0 and the bytes 41, 42
 abbrev digest : ℕ

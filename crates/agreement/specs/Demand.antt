@@ -78,5 +78,5 @@ pub record Demand3 (p : SessionParams) (w : World) : Type 0 where
   pub steps : (i j tick : ℕ) (rows others : List (List ℕ)) (digest other : ℕ)
       → List·Memᴰ (stepped i tick rows digest) (w .log) → List·Memᴰ (stepped j tick others other) (w .log)
       → SameStep p (w .log) tick rows others digest other
-  pub desynced : (i tick : ℕ) → i < p .count → w .at i .outcome ≡ Over (Desynced tick) → Differ p (w .log) i tick
-  pub holds : (i tick : ℕ) → i < p .count → w .at i .outcome ≡ Open → AgreeAt (p .count) i (w .at i .prints) tick
+  pub desynced : (i tick : ℕ) → i < p .count → w .at i .head .outcome ≡ Over (Desynced tick) → Differ p (w .log) i tick
+  pub holds : (i tick : ℕ) → i < p .count → w .at i .head .outcome ≡ Open → AgreeAt (p .count) i (w .at i .prints) tick

@@ -2,7 +2,6 @@
 -- any message that an earlier call of the list made, as often as you like". What is pressed, stepped and committed is
 -- taken from the calls' answers. Assumes nothing.
 use Prim.Native.Nat.{ℕ, _*_}
-use mathlib.Core.Bool.{Bool}
 use mathlib.Core.List.{List, [], _∷_, _++_}
 use mathlib.Core.Option.{Option, none, some}
 use lib.Dec.{eqb, ltb}
@@ -111,8 +110,11 @@ stepShown i rows digest (Advance′.Ended o) = []
 stepShown i rows digest Advance′.BadState = []
 
 unfoldable pub advanceTurn : ℕ → Advanced → Turn
-advanceTurn i r =
-    record { session = r .session; sends = []; shows = stepShown i (r .frames .rows) (r .session .digest) (r .answer) }
+advanceTurn i r = record {
+  session = r .session;
+  sends = [];
+  shows = stepShown i (r .frames .rows) (r .session .head .play .digest) (r .answer);
+}
 
 unfoldable pub commitShown : ℕ → ℕ → WorldDigest → Commit → List Event
 commitShown i tick (Present state) Commit′.Done = committed i tick state ∷ []

@@ -97,10 +97,10 @@ openNo count delay period = validityNo (opened (circle count delay period) .answ
 -- of a delivery: pending, the answer; the six counters; and 1 if seat 1's frame for the tick is held afterwards
 abbrev pub counted : Delivered → ℕ → List ℕ
 counted d tick =
-    d .session .pending ∷ deliveryNo (d .answer)
-    ∷ d .session .stats .«datagrams_refused» ∷ d .session .stats .«frames_repeated»
-    ∷ d .session .stats .«frames_contradicted» ∷ d .session .stats .«frames_out_of_window»
-    ∷ d .session .stats .«digests_contradicted» ∷ d .session .stats .«stall_pumps»
+    d .session .head .play .pending ∷ deliveryNo (d .answer)
+    ∷ d .session .head .stats .«datagrams_refused» ∷ d .session .head .stats .«frames_repeated»
+    ∷ d .session .head .stats .«frames_contradicted» ∷ d .session .head .stats .«frames_out_of_window»
+    ∷ d .session .head .stats .«digests_contradicted» ∷ d .session .head .stats .«stall_pumps»
     ∷ bit (isHeld (d .session .window) 1 tick) ∷ []
 
 -- why a session ended, as the script runner prints it: 1 desynced, 2 peer left, 3 left locally; and at which tick
@@ -120,7 +120,7 @@ ending Leave′.BadState = []
 
 -- of a leave: pending, the answer, and the outcome
 abbrev pub left : Session → List ℕ
-left s = s .pending ∷ leaveNo (leave s .answer) ∷ ending (leave s .answer)
+left s = s .head .play .pending ∷ leaveNo (leave s .answer) ∷ ending (leave s .answer)
 
 -- ---- the table
 

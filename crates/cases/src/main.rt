@@ -115,9 +115,10 @@ fn opens(number: u64, params: SessionParams) {
 fn counts(number: u64, d: Delivered, tick: u64) {
     let answer = d.answer;
     let session = d.session;
-    let stats = session.stats;
+    let stats = session.head.stats;
+    let window = session.window;
     case(number);
-    show(session.pending);
+    show(session.head.play.pending);
     show(answer.number() as u64);
     show(stats.datagrams_refused);
     show(stats.frames_repeated);
@@ -125,7 +126,9 @@ fn counts(number: u64, d: Delivered, tick: u64) {
     show(stats.frames_out_of_window);
     show(stats.digests_contradicted);
     show(stats.stall_pumps);
-    show(session.window.holds(1, tick) as u64);
+    let ticks = window.ticks;
+    let present = window.present;
+    show(window::holds(&ticks, &present, 1, tick) as u64);
     end_line();
 }
 
@@ -149,7 +152,7 @@ fn show_outcome(outcome: Outcome) {
 fn leaves(number: u64, s: Session) {
     let answer = s.leave().answer;
     case(number);
-    show(s.pending);
+    show(s.head.play.pending);
     show(answer.number() as u64);
     if let Leave::Ended(outcome) = answer {
         show_outcome(outcome);

@@ -26,7 +26,7 @@ record Shown : Type 0 where
   held : Bool
 
 shown : Delivered → ℕ → Shown
-shown d tick = record { answer = d .answer; stats = d .session .stats; held = isHeld (d .session .window) 1 tick }
+shown d tick = record { answer = d .answer; stats = d .session .head .stats; held = isHeld (d .session .window) 1 tick }
 
 -- no digest came, and nothing stalled
 did : Delivery → (refused repeated contradicted beyond : ℕ) → Bool → Shown
@@ -101,7 +101,7 @@ other-width = refl
 
 -- the answer, and the seats that are marked as playing
 marked-by : Delivered → List ℕ
-marked-by d = deliveryNo (d .answer) ∷ d .session .seen ∷ []
+marked-by d = deliveryNo (d .answer) ∷ d .session .head .marks .playing ∷ []
 
 -- 27 and 29 come past 21 to 25 and set seat 1's mark; a run that is too short is 21 and sets none
 marks :

@@ -4,7 +4,7 @@
 use Prim.Native.Nat.{ℕ, _+_, _≤_, _<_}
 use mathlib.Core.Path.{_≡_, refl, sym, ap, _∙_}
 use mathlib.Core.List.{List}
-use mathlib.Core.Bool.{Bool, true, false, not, true≢false}
+use mathlib.Core.Bool.{true, false, not, true≢false}
 use native.Mathlib.Omega.{arith}
 use Rattle.logic.specs.Saturating.{most}
 use borrow.Author.Tests.{eqb-true, not-false}
@@ -24,41 +24,41 @@ use Rattle.wire.specs.declared.HelloBody.{HelloBody}
 use Rattle.wire.specs.declared.InputsBody.{InputsBody}
 use Rattle.wire.specs.declared.DigestBody.{DigestBody}
 use Rattle.wire.specs.declared.Message.{Message}
-use Rattle.window.specs.Absorb.{untouched, absorbInputs}
+use Rattle.window.specs.Absorb.{Absorbed, untouched, absorbInputs}
 use Rattle.window.specs.declared.Note.{Note}
 use Rattle.window.specs.declared.Note.the-variants as Note′
-use Rattle.window.specs.declared.Absorbed.{Absorbed}
 use Rattle.window.specs.declared.Window.{Window}
 use Rattle.window.proofs.Absorbing.{unwritten, repeats-rise, repeats-fit, Kept, first-write-wins}
-use Rattle.fingerprint.specs.Judging.{arrival}
 use Rattle.fingerprint.specs.declared.Arrival.{Arrival}
 use Rattle.fingerprint.specs.declared.Arrival.the-variants.{New, Repeated, Contradicted}
 use Rattle.stats.specs.Stats.{countedOf, repeatedOf}
 use Rattle.stats.specs.declared.SessionStats.{SessionStats}
 use Rattle.stats.proofs.Laws.{Each, counted-rises}
-use Rattle.session.specs.Session.{withStats, withSeen, withFrames, ended, started}
+use Rattle.session.specs.Session.{sessionOf, withHead, withMarks, withStats, started, ended}
 use Rattle.session.specs.declared.Outcome.{Outcome}
 use Rattle.session.specs.declared.Standing.{Standing}
 use Rattle.session.specs.declared.Standing.the-variants.{Open, Over}
+use Rattle.session.specs.declared.Head.{Head}
 use Rattle.session.specs.declared.Session.{Session}
 use Rattle.deliver.specs.declared.Refusal.{Refusal}
 use Rattle.deliver.specs.declared.Delivery.{Delivery}
 use Rattle.deliver.specs.declared.Delivery.the-variants.{Accepted, Ended, BadState, Refused}
 use Rattle.deliver.specs.declared.Delivered.{Delivered}
+use Rattle.deliver.specs.declared.HeadDelivered.{HeadDelivered}
 use Rattle.deliver.specs.Numbers.{refusalNo}
-use Rattle.deliver.specs.Deliver.{delivered, refuse, endWith, acceptHello, noteAnswer, noted}
-use Rattle.deliver.specs.Deliver.{framesTaken, absorb, judged, hearBy, hear, marked, accept}
-use Rattle.deliver.specs.Deliver.{fromHeader, deliverForm, deliverBy, deliver}
+use Rattle.deliver.specs.Deliver.{delivered, heard, refused, endWith, greeted, acceptHello, marked, noteAnswer}
+use Rattle.deliver.specs.Deliver.{noted, refuse, framesNoted, framesTaken, absorb, judged, hearBy, hear}
+use Rattle.deliver.specs.Deliver.{accept, fromHeader, deliverForm, deliverBy, deliver}
 
 -- ---- 20 and an ended session: nothing changes
 
-pub deliver-bad : (s : Session) (source : ℕ) (m : Message) (run : List ℕ) → badState (s .params) ≡ true
+pub deliver-bad : (s : Session) (source : ℕ) (m : Message) (run : List ℕ) → badState (s .head .params) ≡ true
     → deliver s source m run ≡ delivered s BadState
 unfolding deliver
 deliver-bad s source m run bad = if-true _ _ bad
 
-pub deliver-ended : (s : Session) (source : ℕ) (m : Message) (run : List ℕ) (o : Outcome) → badState (s .params) ≡ false
-    → s .outcome ≡ Over o → deliver s source m run ≡ delivered s (Ended o)
+pub deliver-ended : (s : Session) (source : ℕ) (m : Message) (run : List ℕ) (o : Outcome)
+    → badState (s .head .params) ≡ false → s .head .outcome ≡ Over o → deliver s source m run ≡ delivered s (Ended o)
 unfolding deliver deliverBy
 deliver-ended s source m run o good e = if-false _ _ good ∙ ap (deliverBy s source m run) e
 
@@ -68,23 +68,27 @@ deliver-ended s source m run o good e = if-false _ _ good ∙ ap (deliverBy s so
 abbrev pub Fit : SessionStats → Type 0
 Fit c = Each (λ n _. n ≤ most) c c
 
--- what is left of s: another playing mark and other counters, and nothing else
+-- what is left of a head: another playing mark and other counters, and nothing else
+abbrev withMark : Head → ℕ → Head
+withMark h x = withMarks h (record { hellos = h .marks .hellos; playing = x; started = h .marks .started })
+
 pub record OnlyMarks (s t : Session) : Type 0 where
-  pub seen : ℕ
+  pub playing : ℕ
   pub stats : SessionStats
-  pub is : t ≡ withStats (withSeen s seen) stats
+  pub is : t ≡ withHead s (withStats (withMark (s .head) playing) stats)
 
 -- the window after a delivery: as it was, or with one message's frames of the agreed width taken
 pub data WindowOf (s : Session) (w : Window) : Type 0 where
   same : w ≡ s .window → WindowOf s w
-  took : (sender : ℕ) (i : InputsBody) (run : List ℕ) → sender < seats → i .width ≡ s .params .width
-      → w ≡ absorbInputs (s .window) (s .stats .«frames_repeated») (s .pending) sender i run .window → WindowOf s w
+  took : (sender : ℕ) (i : InputsBody) (run : List ℕ) → sender < seats → i .width ≡ s .head .params .width
+      → w ≡ absorbInputs (s .window) (s .head .stats .«frames_repeated») (s .head .play .pending) sender i run .window
+      → WindowOf s w
 
 pub record OfDelivery (s : Session) (r : Delivered) : Type 0 where
   -- 21 to 31 change the marks and the counters alone
   pub refused : (x : Refusal) → r .answer ≡ Refused x → OnlyMarks s (r .session)
   -- no counter falls
-  pub rises : Each _≤_ (s .stats) (r .session .stats)
+  pub rises : Each _≤_ (s .head .stats) (r .session .head .stats)
   pub window : WindowOf s (r .session .window)
 
 abbrev rises-not : (c : SessionStats) → Each _≤_ c c
@@ -107,25 +111,20 @@ rises-then {a} {b} {c} f g = record {
   stalls = omega arith;
 }
 
--- a session with the same counters and the same window
-record Alike (s t : Session) : Type 0 where
-  stats : t .stats ≡ s .stats
-  window : t .window ≡ s .window
+-- an answer that is no refusal, over a session with the same counters and the same window
+calm : {s : Session} (t : Session) (a : Delivery) → ((x : Refusal) → a ≡ Refused x → ⊥)
+    → t .head .stats ≡ s .head .stats → t .window ≡ s .window → OfDelivery s (delivered t a)
+calm {s} t a n e w =
+    record { refused = λ x q. absurd (n x q); rises = rw e (rises-not (s .head .stats)); window = same w }
 
--- an answer that is no refusal, over a session like it
-calm : {s : Session} (t : Session) (a : Delivery) → ((x : Refusal) → a ≡ Refused x → ⊥) → Alike s t
-    → OfDelivery s (delivered t a)
-calm {s} t a n e =
-    record { refused = λ x q. absurd (n x q); rises = rw (e .stats) (rises-not (s .stats)); window = same (e .window) }
-
--- ending and starting a session leave both
-ended-alike : (s t : Session) (o : Outcome) → Alike s t → Alike s (ended t o)
+-- ending and starting a session leave the counters
+ended-stats : (h : Head) (o : Outcome) → ended h o .stats ≡ h .stats
 unfolding ended
-ended-alike s t o e = record { stats = e .stats; window = e .window }
+ended-stats h o = refl
 
-started-alike : (s t : Session) → Alike s t → Alike s (started t)
+started-stats : (h : Head) → started h .stats ≡ h .stats
 unfolding started
-started-alike s t e = byTest (Alike s) (λ _. record { stats = e .stats; window = e .window }) (λ _. e)
+started-stats h = byTest (λ (k : Head). k .stats ≡ h .stats) (λ _. refl) (λ _. refl)
 
 not-accepted : (x : Refusal) → Accepted ≡ Refused x → ⊥
 not-accepted x e = let z : _≡_ {A = ℕ} 0 1 = cc in omega arith
@@ -136,29 +135,31 @@ not-ended o x e = let z : _≡_ {A = ℕ} 0 1 = cc in omega arith
 not-bad : (x : Refusal) → BadState ≡ Refused x → ⊥
 not-bad x e = let z : _≡_ {A = ℕ} 0 1 = cc in omega arith
 
--- a refusal over a session that differs in the marks and counters alone
-refuse-of : {s : Session} (seen : ℕ) (c : SessionStats) (x : Refusal) → Each _≤_ (s .stats) c → Fit c
-    → OfDelivery s (refuse (withStats (withSeen s seen) c) x)
-unfolding refuse
-refuse-of seen c x f fit = record {
-  refused = λ _ _. record { seen = seen; stats = countedOf c (refusalNo x); is = refl };
+-- a refusal over a head that differs in the mark and the counters alone
+refuse-of : {s : Session} (playing : ℕ) (c : SessionStats) (x : Refusal) → Each _≤_ (s .head .stats) c → Fit c
+    → OfDelivery s (heard s (refused (withStats (withMark (s .head) playing) c) x))
+unfolding refused
+refuse-of playing c x f fit = record {
+  refused = λ _ _. record { playing = playing; stats = countedOf c (refusalNo x); is = refl };
   rises = rises-then f (counted-rises c (refusalNo x) fit);
   window = same refl;
 }
 
-module _ (s : Session) (fit : Fit (s .stats)) where
+module _ (s : Session) (fit : Fit (s .head .stats)) where
   plain-refusal : (x : Refusal) → OfDelivery s (refuse s x)
-  plain-refusal x = refuse-of (s .seen) (s .stats) x (rises-not (s .stats)) fit
+  plain-refusal x = refuse-of (s .head .marks .playing) (s .head .stats) x (rises-not (s .head .stats)) fit
 
-  end-of : (t : Session) (o : Outcome) → Alike s t → OfDelivery s (endWith t o)
+  -- a session like s ends
+  end-of : (t : Session) (o : Outcome) → t .head .stats ≡ s .head .stats → t .window ≡ s .window
+      → OfDelivery s (heard t (endWith (t .head) o))
   unfolding endWith
-  end-of t o e = calm {s = s} (ended t o) (Ended o) (not-ended o) (ended-alike s t o e)
+  end-of t o e w = calm {s = s} _ (Ended o) (not-ended o) (ended-stats (t .head) o ∙ e) w
 
-  hello-of : (sender : ℕ) (h : HelloBody) → OfDelivery s (acceptHello s sender h)
-  unfolding acceptHello
+  hello-of : (sender : ℕ) (h : HelloBody) → OfDelivery s (heard s (acceptHello (s .head) sender h))
+  unfolding acceptHello greeted
   hello-of sender h =
-      byTest (OfDelivery s) (λ _. calm {s = s} _ Accepted not-accepted
-      (started-alike s _ (record { stats = refl; window = refl }))) (λ _. plain-refusal _)
+      byTest (λ (r : HeadDelivered). OfDelivery s (heard s r))
+      (λ _. calm {s = s} _ Accepted not-accepted (started-stats _) refl) (λ _. plain-refusal _)
 
 -- ---- frames
 
@@ -182,85 +183,82 @@ repeated-rises c n h = with-repeated (rises-not c) h
 repeated-fits : (c : SessionStats) (n : ℕ) → n ≤ most → Fit c → Fit (repeatedOf c n)
 repeated-fits c n h f = with-repeated f h
 
--- a note's refusal, where nothing was written and where something was
-note-of : {s : Session} (r : Delivered) (wrote : Bool) → Each _≤_ (s .stats) (r .session .stats)
-    → WindowOf s (r .session .window) → (wrote ≡ false → OfDelivery s r) → OfDelivery s (noteAnswer r wrote)
-unfolding noteAnswer
-note-of {s} r wrote rises window f =
-    byTest (OfDelivery s) (λ _. record { refused = λ x q. absurd (not-accepted x q); rises = rises; window = window }) f
+module _ (s : Session) (fit : Fit (s .head .stats)) (sender : ℕ) where
+  -- s with the sender marked
+  abbrev seen : Session
+  seen = withHead s (marked (s .head) sender)
 
-refuse-window : (s t : Session) (x : Refusal) → WindowOf s (t .window) → WindowOf s (refuse t x .session .window)
-unfolding refuse
-refuse-window s t x h = h
-
-refuse-rises : (t : Session) (x : Refusal) → Fit (t .stats) → Each _≤_ (t .stats) (refuse t x .session .stats)
-unfolding refuse
-refuse-rises t x fit = counted-rises (t .stats) (refusalNo x) fit
-
-marked-alike : (s : Session) (sender : ℕ) → Alike s (marked s sender)
-unfolding marked
-marked-alike s sender = record { stats = refl; window = refl }
-
-module _ (s : Session) (fit : Fit (s .stats)) (sender : ℕ) where
-  marked-refusal : (x : Refusal) → OfDelivery s (refuse (marked s sender) x)
+  marked-refusal : (x : Refusal) → OfDelivery s (refuse seen x)
   unfolding marked
-  marked-refusal x = refuse-of _ (s .stats) x (rises-not (s .stats)) fit
+  marked-refusal x = refuse-of _ (s .head .stats) x (rises-not (s .head .stats)) fit
 
   -- the session with a message's frames taken, and what a note makes of it
-  module _ (a : Absorbed) (rises : s .stats .«frames_repeated» ≤ a .repeated) (fits : a .repeated ≤ most)
+  module _ (a : Absorbed) (rises : s .head .stats .«frames_repeated» ≤ a .repeated) (fits : a .repeated ≤ most)
       (unwritten : a .wrote ≡ false → a .window ≡ s .window) (window : WindowOf s (a .window)) where
-    abbrev taken : Session
-    taken = withFrames (marked s sender) (a .window) (repeatedOf (s .stats) (a .repeated))
+    abbrev taken : Head
+    taken = withStats (marked (s .head) sender) (repeatedOf (s .head .stats) (a .repeated))
 
-    unwritten-refusal : (x : Refusal) → a .wrote ≡ false → OfDelivery s (refuse taken x)
+    -- a head beside the frames' window
+    abbrev beside : HeadDelivered → Delivered
+    beside r = delivered (sessionOf (r .head) (a .window) (s .prints)) (r .answer)
+
+    unwritten-refusal : (x : Refusal) → a .wrote ≡ false → OfDelivery s (beside (refused taken x))
     unfolding marked
     unwritten-refusal x e =
-        rw (unwritten e) (refuse-of _ (repeatedOf (s .stats) (a .repeated)) x
-        (repeated-rises (s .stats) (a .repeated) rises) (repeated-fits (s .stats) (a .repeated) fits fit))
+        rw (unwritten e) (refuse-of _ (repeatedOf (s .head .stats) (a .repeated)) x
+        (repeated-rises (s .head .stats) (a .repeated) rises) (repeated-fits (s .head .stats) (a .repeated) fits fit))
 
-    noted-refusal : (x : Refusal) → OfDelivery s (noteAnswer (refuse taken x) (a .wrote))
+    refuse-rises : (x : Refusal) → Each _≤_ (s .head .stats) (refused taken x .head .stats)
+    unfolding refused
+    refuse-rises x =
+        rises-then (repeated-rises (s .head .stats) (a .repeated) rises)
+        (counted-rises (repeatedOf (s .head .stats) (a .repeated)) (refusalNo x)
+        (repeated-fits (s .head .stats) (a .repeated) fits fit))
+
+    noted-refusal : (x : Refusal) → OfDelivery s (beside (noteAnswer (refused taken x) (a .wrote)))
+    unfolding noteAnswer
     noted-refusal x =
-        note-of (refuse taken x) (a .wrote)
-        (rises-then (repeated-rises (s .stats) (a .repeated) rises)
-        (refuse-rises taken x (repeated-fits (s .stats) (a .repeated) fits fit)))
-        (refuse-window s taken x window)
+        byTest (λ (r : HeadDelivered). OfDelivery s (beside r))
+        (λ _. record { refused = λ y q. absurd (not-accepted y q); rises = refuse-rises x; window = window })
         (unwritten-refusal x)
 
-    noted-of : (note : Note) → OfDelivery s (noted taken note (a .wrote))
+    noted-of : (note : Note) → OfDelivery s (beside (noted taken note (a .wrote)))
     unfolding noted
     noted-of Note′.Nothing = record {
       refused = λ x q. absurd (not-accepted x q);
-      rises = repeated-rises (s .stats) (a .repeated) rises;
+      rises = repeated-rises (s .head .stats) (a .repeated) rises;
       window = window;
     }
     noted-of (Note′.OutOfWindow tick pending) = noted-refusal _
     noted-of (Note′.Contradiction peer tick) = noted-refusal _
 
-  inputs-of : (i : InputsBody) (run : List ℕ) → sender < seats → OfDelivery s (absorb (marked s sender) sender i run)
-  unfolding absorb framesTaken marked
+  inputs-of : (i : InputsBody) (run : List ℕ) → sender < seats → OfDelivery s (absorb seen sender i run)
+  unfolding absorb framesTaken framesNoted marked
   inputs-of i run low =
-      let a = absorbInputs (s .window) (s .stats .«frames_repeated») (s .pending) sender i run in
+      let pending = s .head .play .pending in
+      let a = absorbInputs (s .window) (s .head .stats .«frames_repeated») pending sender i run in
       byTest (OfDelivery s)
-      (λ agreed. noted-of a (repeats-rise (s .window) _ (s .pending) sender i run (fit .repeated))
-      (repeats-fit (s .window) _ (s .pending) sender i run (fit .repeated))
-      (unwritten (s .window) _ (s .pending) sender i run (fit .repeated))
-      (took sender i run low (eqb-true (i .width) (s .params .width) agreed) refl) (a .note))
+      (λ agreed. noted-of a (repeats-rise (s .window) _ pending sender i run (fit .repeated))
+      (repeats-fit (s .window) _ pending sender i run (fit .repeated))
+      (unwritten (s .window) _ pending sender i run (fit .repeated))
+      (took sender i run low (eqb-true (i .width) (s .head .params .width) agreed) refl) (a .note))
       (λ _. marked-refusal _)
 
   -- ---- a Digest
 
-  judged-of : (t : Session) (tick : ℕ) → Alike s t → OfDelivery s (judged t tick)
+  judged-of : (t : Session) (tick : ℕ) → t .head .stats ≡ s .head .stats → t .window ≡ s .window
+      → OfDelivery s (judged t tick)
   unfolding judged
-  judged-of t tick e = byTest (OfDelivery s) (λ _. end-of s fit t _ e) (λ _. calm {s = s} t Accepted not-accepted e)
+  judged-of t tick e w =
+      byTest (OfDelivery s) (λ _. end-of s fit t _ e w) (λ _. calm {s = s} t Accepted not-accepted e w)
 
-  hear-by-of : (d : DigestBody) (a : Arrival) → OfDelivery s (hearBy (marked s sender) sender d a)
-  unfolding hearBy
+  hear-by-of : (d : DigestBody) (a : Arrival) → OfDelivery s (hearBy seen sender d a)
+  unfolding hearBy marked
   hear-by-of d Contradicted = marked-refusal _
-  hear-by-of d Repeated = calm {s = s} (marked s sender) Accepted not-accepted (marked-alike s sender)
-  hear-by-of d New =
-      judged-of _ (d .tick) record { stats = marked-alike s sender .stats; window = marked-alike s sender .window }
+  hear-by-of d Repeated = calm {s = s} seen Accepted not-accepted refl refl
+  hear-by-of d New = judged-of _ (d .tick) refl refl
 
-  digest-of : (d : DigestBody) → OfDelivery s (hear (marked s sender) sender d)
+  digest-of : (d : DigestBody) → OfDelivery s (hear seen sender d)
   unfolding hear
   digest-of d = hear-by-of d _
 
@@ -271,7 +269,7 @@ module _ (s : Session) (fit : Fit (s .stats)) (sender : ℕ) where
   accept-of (Body′.Hello h) run low = hello-of s fit sender h
   accept-of (Body′.Inputs i) run low = inputs-of i run low
   accept-of (Body′.Digest d) run low = digest-of d
-  accept-of (Body′.Bye b) run low = end-of s fit s _ record { stats = refl; window = refl }
+  accept-of (Body′.Bye b) run low = end-of s fit s _ refl refl
   accept-of (Body′.Other kind) run low = plain-refusal s fit _
 
 -- who is in the roster is a seat
@@ -291,7 +289,7 @@ inputs-keep pending r u frame low least greatest w repeated sender i run n e nar
     rw e (first-write-wins pending n r u frame low narrow least greatest (untouched w repeated) sender
     (i .first) run (i .count) fits k)
 
-module _ (s : Session) (fit : Fit (s .stats)) (source : ℕ) (m : Message) (run : List ℕ) where
+module _ (s : Session) (fit : Fit (s .head .stats)) (source : ℕ) (m : Message) (run : List ℕ) where
   header-of : OfDelivery s (fromHeader s source m run)
   unfolding fromHeader
   header-of =
@@ -299,7 +297,7 @@ module _ (s : Session) (fit : Fit (s .stats)) (source : ℕ) (m : Message) (run 
       (λ _. byTest (OfDelivery s) (λ _. plain-refusal s fit _)
       (λ _. byTest (OfDelivery s) (λ _. plain-refusal s fit _)
       (λ _. byTest (OfDelivery s) (λ _. plain-refusal s fit _)
-      (λ inside. accept-of s fit (m .sender) (m .body) run (roster-low (s .params) (m .sender) inside)))))
+      (λ inside. accept-of s fit (m .sender) (m .body) run (roster-low (s .head .params) (m .sender) inside)))))
 
   form-of : (f : Form) → OfDelivery s (deliverForm s source m run f)
   unfolding deliverForm
@@ -308,29 +306,32 @@ module _ (s : Session) (fit : Fit (s .stats)) (source : ℕ) (m : Message) (run 
 
   standing-of : (o : Standing) → OfDelivery s (deliverBy s source m run o)
   unfolding deliverBy
-  standing-of (Over o) = calm {s = s} s (Ended o) (not-ended o) record { stats = refl; window = refl }
+  standing-of (Over o) = calm {s = s} s (Ended o) (not-ended o) refl refl
   standing-of Open = form-of (formOf m run)
 
   pub of-delivery : OfDelivery s (deliver s source m run)
   unfolding deliver
   of-delivery =
-      byTest (OfDelivery s) (λ _. calm {s = s} s BadState not-bad record { stats = refl; window = refl })
-      (λ _. standing-of (s .outcome))
+      byTest (OfDelivery s) (λ _. calm {s = s} s BadState not-bad refl refl)
+      (λ _. standing-of (s .head .outcome))
 
   -- ---- a frame that is held at or above pending is never overwritten
 
-  pub held-stays : Sound (s .params) → (r u : ℕ) (frame : List ℕ) → r < seats → s .pending ≤ u → u < s .pending + window
-      → Kept (s .pending) (s .params .width) r u frame (s .window)
-      → Kept (s .pending) (s .params .width) r u frame (deliver s source m run .session .window)
+  pub held-stays : Sound (s .head .params) → (r u : ℕ) (frame : List ℕ) → r < seats
+      → s .head .play .pending ≤ u → u < s .head .play .pending + window
+      → Kept (s .head .play .pending) (s .head .params .width) r u frame (s .window)
+      → Kept (s .head .play .pending) (s .head .params .width) r u frame (deliver s source m run .session .window)
   held-stays ok r u frame low least greatest k = from (deliver s source m run .session .window) (of-delivery .window)
     where
-      from : (w : Window) → WindowOf s w → Kept (s .pending) (s .params .width) r u frame w
+      from : (w : Window) → WindowOf s w → Kept (s .head .play .pending) (s .head .params .width) r u frame w
       from w (same e) = rw e k
       from w (took sender i frames fits width e) = rw e (kept sender i frames fits width)
         where
-          kept : (sender : ℕ) (i : InputsBody) (frames : List ℕ) → sender < seats → i .width ≡ s .params .width
-              → Kept (s .pending) (s .params .width) r u frame
-              (absorbInputs (s .window) (s .stats .«frames_repeated») (s .pending) sender i frames .window)
+          kept : (sender : ℕ) (i : InputsBody) (frames : List ℕ) → sender < seats → i .width ≡ s .head .params .width
+              → Kept (s .head .play .pending) (s .head .params .width) r u frame
+              (absorbInputs (s .window) (s .head .stats .«frames_repeated») (s .head .play .pending)
+              sender i frames .window)
           kept sender i frames fits width =
-              inputs-keep (s .pending) r u frame low least greatest (s .window) (s .stats .«frames_repeated») sender i
-              frames (s .params .width) width (ok .width .greatest) fits k
+              inputs-keep (s .head .play .pending) r u frame low least greatest (s .window)
+              (s .head .stats .«frames_repeated») sender i frames (s .head .params .width) width
+              (ok .width .greatest) fits k

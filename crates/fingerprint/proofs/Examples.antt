@@ -3,9 +3,9 @@
 use mathlib.Core.Path.{_≡_, refl}
 use mathlib.Core.Bool.{true, false}
 use mathlib.Core.List.{[], _∷_}
-use Prim.Native.Nat.{ℕ}
+use Prim.Native.Nat.{ℕ, _-_, _^_}
 use Rattle.logic.specs.Test.{if_then_else_}
-use Rattle.peer.specs.Seats.{has, every}
+use Rattle.peer.specs.Seats.{seats, has, every}
 use Rattle.fingerprint.specs.declared.Fingerprint.{Fingerprint}
 use Rattle.fingerprint.specs.declared.Fingerprints.{Fingerprints}
 use Rattle.fingerprint.specs.declared.Cell.the-variants.{Empty, Holds}
@@ -40,7 +40,7 @@ found :
     ∷ remote (theirs noPrints 1 5 1 2) 1 5 ∷ remote (theirs noPrints 1 5 1 2) 1 21
     ∷ remote (theirs noPrints 1 5 1 2) 2 5 ∷ own (theirs noPrints 1 5 1 2) 5
     ∷ remoteFor (theirs noPrints 1 5 1 2) 1 5 ∷ remoteFor (theirs noPrints 1 5 1 2) 1 21
-    ∷ remote (theirs noPrints 7 15 1 2) 7 15 ∷ remote (theirs noPrints 8 5 1 2) 8 5
+    ∷ remote (theirs noPrints (seats - 1) 15 1 2) (seats - 1) 15 ∷ remote (theirs noPrints seats 5 1 2) seats 5
     ∷ remote (theirs (theirs noPrints 1 21 3 4) 1 5 1 2) 1 21
     ∷ remoteFor (theirs (theirs noPrints 1 21 3 4) 1 5 1 2) 1 21
     ∷ []
@@ -55,7 +55,7 @@ unfolding finding
 found = refl
 
 -- a seat above the last changes nothing
-no-seat : theirs noPrints 8 5 1 2 ≡ noPrints
+no-seat : theirs noPrints seats 5 1 2 ≡ noPrints
 unfolding finding
 no-seat = refl
 
@@ -68,7 +68,7 @@ judged :
     ∷ parted (theirs (ours noPrints 5 1 2) 1 21 9 2) 2 5 ∷ parted (theirs (ours noPrints 21 1 2) 1 5 9 2) 2 5
     ∷ parted (theirs (ours noPrints 5 1 2) 1 5 9 2) 4 5
     ∷ parted (theirs (theirs (ours noPrints 5 1 2) 1 5 1 2) 2 5 9 2) 6 5
-    ∷ parted (theirs (ours noPrints 5 1 2) 7 5 9 2) 128 5
+    ∷ parted (theirs (ours noPrints 5 1 2) (seats - 1) 5 9 2) (2 ^ (seats - 1)) 5
     ∷ []
     ≡ false ∷ false ∷ false
     ∷ false ∷ true ∷ false
@@ -87,7 +87,7 @@ arrivals :
     ∷ arrival (theirs noPrints 1 5 1 2) 1 (print 21 1 2) ∷ arrival (theirs noPrints 1 37 1 2) 1 (print 21 1 2)
     ∷ arrival (theirs noPrints 1 21 1 2) 1 (print 21 1 2) ∷ arrival (theirs noPrints 1 21 1 2) 1 (print 21 9 2)
     ∷ arrival (theirs noPrints 1 21 1 2) 1 (print 21 1 9)
-    ∷ arrival (theirs noPrints 1 21 1 2) 2 (print 21 9 2) ∷ arrival (theirs noPrints 8 21 1 2) 8 (print 21 1 2)
+    ∷ arrival (theirs noPrints 1 21 1 2) 2 (print 21 9 2) ∷ arrival (theirs noPrints seats 21 1 2) seats (print 21 1 2)
     ∷ []
     ≡ New
     ∷ New ∷ New

@@ -3,7 +3,8 @@
 -- sixteen cells are the first, then sixteen for each seat. The lists end there, so a seat above the last has no cell:
 -- nothing is found past the end, and nothing is stored there. Assumes nothing.
 use Prim.Native.Nat.{ℕ, _+_, _*_}
-use mathlib.Core.Bool.{true, false}
+use mathlib.Core.Bool.{Bool, true, false}
+use mathlib.Core.List.{List}
 use lib.Dec.{eqb}
 use lib.ListN.{getD, set, replicate}
 use Rattle.logic.specs.Test.{if_then_else_}
@@ -28,6 +29,10 @@ unfoldable pub remoteCell : (seat tick : ℕ) → ℕ
 remoteCell seat tick = (seat + 1) * history + ownCell tick
 
 -- ---- the prints of a cell
+
+-- the prints of their four lists
+abbrev pub printsOf : (held : List Bool) (ticks states inputs : List ℕ) → Fingerprints
+printsOf held ticks states inputs = record { held = held; ticks = ticks; states = states; inputs = inputs }
 
 -- no print yet
 unfoldable pub noPrints : Fingerprints

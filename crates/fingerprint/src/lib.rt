@@ -1,8 +1,10 @@
 // What worlds and inputs hashed to after a tick: the fingerprints of this player and of each other one, sixteen of
 // each, and where they part.
 ghost use mathlib.Core.Path.{_≡_};
+ghost use mathlib.Core.Bool.{true, false};
 ghost use lib.Dec.{eqb};
-ghost use Rattle.fingerprint.specs.Cells.{ownCell, remoteCell, noPrints, cellAt, storedAt, own};
+ghost use lib.ListN.{getD, set};
+ghost use Rattle.fingerprint.specs.Cells.{ownCell, remoteCell, noPrints, printsOf, cellAt, storedAt, own};
 ghost use Rattle.fingerprint.specs.Cells.{remote, withOwn, withRemote, ofTick, remoteFor};
 ghost use Rattle.fingerprint.specs.Judging.{agrees, allAgree, parted, arrivalBy, arrival};
 ghost use Rattle.fingerprint.specs.LastAgreed.{offer, higher, lastAgreed};
@@ -144,129 +146,275 @@ impl Fingerprints {
             inputs: [0; CELLS],
         }
     }
+}
 
-    // What a cell holds. Past the end there is none.
-    fn at(self, cell: usize) -> Cell
-        ensures { λ r. ⌜ r ≡ cellAt self cell ⌝ }
-    {
-        if cell >= CELLS {
-            return Cell::Empty;
-        }
-        if self.held[cell] {
-            return Cell::Holds(Fingerprint {
-                tick: self.ticks[cell],
-                state: self.states[cell],
-                input: self.inputs[cell],
-            });
-        }
-        Cell::Empty
+// ---- one cell of the four lists. Past the end nothing is found, and nothing is stored
+
+fn number_at(numbers: &[u64], cell: usize) -> u64
+    ensures { λ r. ⌜ r ≡ getD (now (numbers .entry)) cell 0 ⌝ }
+{
+    if cell < numbers.len() {
+        return numbers[cell];
     }
+    0
+}
 
-    fn store(mut self, cell: usize, print: Fingerprint) -> Self
-        ensures { λ r. ⌜ r ≡ storedAt self cell print ⌝ }
-    {
-        if cell >= CELLS {
-            return self;
-        }
-        self.held[cell] = true;
-        self.ticks[cell] = print.tick;
-        self.states[cell] = print.state;
-        self.inputs[cell] = print.input;
-        self
+fn mark_at(marks: &[bool], cell: usize) -> bool
+    ensures { λ r. ⌜ r ≡ getD (now (marks .entry)) cell false ⌝ }
+{
+    if cell < marks.len() {
+        return marks[cell];
     }
+    false
+}
 
-    // One's own cell of a tick as it stands, whatever tick it holds.
-    pub fn own(self, tick: u64) -> Cell
-        ensures { λ r. ⌜ r ≡ own self tick ⌝ }
-    {
-        self.at(own_cell(tick))
+fn put_number(numbers: &mut [u64], cell: usize, number: u64)
+    ensures { λ _. ⌜ now (numbers .exit) ≡ set (now (numbers .entry)) cell number ⌝ }
+{
+    if cell < numbers.len() {
+        numbers[cell] = number;
     }
+}
 
-    // The same of a seat.
-    pub fn remote(self, seat: u8, tick: u64) -> Cell
-        ensures { λ r. ⌜ r ≡ remote self seat tick ⌝ }
-    {
-        self.at(remote_cell(seat, tick))
+fn put_mark(marks: &mut [bool], cell: usize)
+    ensures { λ _. ⌜ now (marks .exit) ≡ set (now (marks .entry)) cell true ⌝ }
+{
+    if cell < marks.len() {
+        marks[cell] = true;
     }
+}
 
-    // The seat's print for that very tick.
-    pub fn remote_for(self, seat: u8, tick: u64) -> Cell
-        ensures { λ r. ⌜ r ≡ remoteFor self seat tick ⌝ }
-    {
-        self.remote(seat, tick).of_tick(tick)
+fn cell_at(
+    held: &[bool; CELLS],
+    ticks: &[u64; CELLS],
+    states: &[u64; CELLS],
+    inputs: &[u64; CELLS],
+    cell: usize,
+) -> Cell
+    ensures { λ r. ⌜ r
+        ≡ cellAt (printsOf (now (held .entry)) (now (ticks .entry)) (now (states .entry)) (now (inputs .entry)))
+        cell ⌝ }
+{
+    if mark_at(held, cell) {
+        return Cell::Holds(Fingerprint {
+            tick: number_at(ticks, cell),
+            state: number_at(states, cell),
+            input: number_at(inputs, cell),
+        });
     }
+    Cell::Empty
+}
 
-    pub fn with_own(self, print: Fingerprint) -> Self
-        ensures { λ r. ⌜ r ≡ withOwn self print ⌝ }
-    {
-        self.store(own_cell(print.tick), print)
-    }
+fn store_at(
+    held: &mut [bool; CELLS],
+    ticks: &mut [u64; CELLS],
+    states: &mut [u64; CELLS],
+    inputs: &mut [u64; CELLS],
+    cell: usize,
+    print: Fingerprint,
+)
+    ensures { λ _. ⌜ printsOf (now (held .exit)) (now (ticks .exit)) (now (states .exit)) (now (inputs .exit))
+        ≡ storedAt (printsOf (now (held .entry)) (now (ticks .entry)) (now (states .entry)) (now (inputs .entry)))
+        cell print ⌝ }
+{
+    put_mark(held, cell);
+    put_number(ticks, cell, print.tick);
+    put_number(states, cell, print.state);
+    put_number(inputs, cell, print.input);
+}
 
-    pub fn with_remote(self, seat: u8, print: Fingerprint) -> Self
-        ensures { λ r. ⌜ r ≡ withRemote self seat print ⌝ }
-    {
-        self.store(remote_cell(seat, print.tick), print)
-    }
+// ---- by tick, and by seat
 
-    // What a seat's print is to the cell that it would go in.
-    pub fn arrival(self, seat: u8, print: Fingerprint) -> Arrival
-        ensures { λ r. ⌜ r ≡ arrival self seat print ⌝ }
-    {
-        self.remote(seat, print.tick).arrival(print)
-    }
+// One's own cell of a tick as it stands, whatever tick it holds.
+pub fn own(
+    held: &[bool; CELLS],
+    ticks: &[u64; CELLS],
+    states: &[u64; CELLS],
+    inputs: &[u64; CELLS],
+    tick: u64,
+) -> Cell
+    ensures { λ r. ⌜ r
+        ≡ own (printsOf (now (held .entry)) (now (ticks .entry)) (now (states .entry)) (now (inputs .entry))) tick ⌝ }
+{
+    cell_at(held, ticks, states, inputs, own_cell(tick))
+}
 
-    // No remote's print for the tick of one's own has another state.
-    fn all_agree(self, remotes: PeerSet, mine: Fingerprint) -> bool
-        ensures { λ r. ⌜ r ≡ allAgree self (remotes .0) (mine .tick) (mine .state) ⌝ }
-    {
-        for seat in 0..peer::SEATS {
-            if remotes.contains(seat) {
-                if !self.remote_for(seat, mine.tick).agrees(mine) {
-                    return false;
-                }
+// The same of a seat.
+fn remote(
+    held: &[bool; CELLS],
+    ticks: &[u64; CELLS],
+    states: &[u64; CELLS],
+    inputs: &[u64; CELLS],
+    seat: u8,
+    tick: u64,
+) -> Cell
+    ensures { λ r. ⌜ r
+        ≡ remote (printsOf (now (held .entry)) (now (ticks .entry)) (now (states .entry)) (now (inputs .entry)))
+        seat tick ⌝ }
+{
+    cell_at(held, ticks, states, inputs, remote_cell(seat, tick))
+}
+
+// The seat's print for that very tick.
+pub fn remote_for(
+    held: &[bool; CELLS],
+    ticks: &[u64; CELLS],
+    states: &[u64; CELLS],
+    inputs: &[u64; CELLS],
+    seat: u8,
+    tick: u64,
+) -> Cell
+    ensures { λ r. ⌜ r
+        ≡ remoteFor (printsOf (now (held .entry)) (now (ticks .entry)) (now (states .entry)) (now (inputs .entry)))
+        seat tick ⌝ }
+{
+    remote(held, ticks, states, inputs, seat, tick).of_tick(tick)
+}
+
+pub fn store_own(
+    held: &mut [bool; CELLS],
+    ticks: &mut [u64; CELLS],
+    states: &mut [u64; CELLS],
+    inputs: &mut [u64; CELLS],
+    print: Fingerprint,
+)
+    ensures { λ _. ⌜ printsOf (now (held .exit)) (now (ticks .exit)) (now (states .exit)) (now (inputs .exit))
+        ≡ withOwn (printsOf (now (held .entry)) (now (ticks .entry)) (now (states .entry)) (now (inputs .entry)))
+        print ⌝ }
+{
+    store_at(held, ticks, states, inputs, own_cell(print.tick), print);
+}
+
+pub fn store_remote(
+    held: &mut [bool; CELLS],
+    ticks: &mut [u64; CELLS],
+    states: &mut [u64; CELLS],
+    inputs: &mut [u64; CELLS],
+    seat: u8,
+    print: Fingerprint,
+)
+    ensures { λ _. ⌜ printsOf (now (held .exit)) (now (ticks .exit)) (now (states .exit)) (now (inputs .exit))
+        ≡ withRemote (printsOf (now (held .entry)) (now (ticks .entry)) (now (states .entry)) (now (inputs .entry)))
+        seat print ⌝ }
+{
+    store_at(
+        held,
+        ticks,
+        states,
+        inputs,
+        remote_cell(seat, print.tick),
+        print,
+    );
+}
+
+// ---- judging
+
+// What a seat's print is to the cell that it would go in.
+pub fn arrival_of(
+    held: &[bool; CELLS],
+    ticks: &[u64; CELLS],
+    states: &[u64; CELLS],
+    inputs: &[u64; CELLS],
+    seat: u8,
+    print: Fingerprint,
+) -> Arrival
+    ensures { λ r. ⌜ r
+        ≡ arrival (printsOf (now (held .entry)) (now (ticks .entry)) (now (states .entry)) (now (inputs .entry)))
+        seat print ⌝ }
+{
+    remote(held, ticks, states, inputs, seat, print.tick).arrival(print)
+}
+
+// No remote's print for the tick of one's own has another state.
+fn all_agree(
+    held: &[bool; CELLS],
+    ticks: &[u64; CELLS],
+    states: &[u64; CELLS],
+    inputs: &[u64; CELLS],
+    remotes: PeerSet,
+    mine: Fingerprint,
+) -> bool
+    ensures { λ r. ⌜ r
+        ≡ allAgree (printsOf (now (held .entry)) (now (ticks .entry)) (now (states .entry)) (now (inputs .entry)))
+        (remotes .0) (mine .tick) (mine .state) ⌝ }
+{
+    for seat in 0..peer::SEATS {
+        if remotes.contains(seat) {
+            if !remote_for(held, ticks, states, inputs, seat, mine.tick).agrees(mine) {
+                return false;
             }
         }
-        true
     }
+    true
+}
 
-    // One's own state for this tick and a remote's differ.
-    pub fn parted(self, remotes: PeerSet, tick: u64) -> bool
-        ensures { λ r. ⌜ r ≡ parted self (remotes .0) tick ⌝ }
-    {
-        let cell = self.own(tick).of_tick(tick);
-        match cell {
-            Cell::Empty => false,
-            Cell::Holds(mine) => !self.all_agree(remotes, mine),
-        }
+// One's own state for this tick and a remote's differ.
+pub fn parted(
+    held: &[bool; CELLS],
+    ticks: &[u64; CELLS],
+    states: &[u64; CELLS],
+    inputs: &[u64; CELLS],
+    remotes: PeerSet,
+    tick: u64,
+) -> bool
+    ensures { λ r. ⌜ r
+        ≡ parted (printsOf (now (held .entry)) (now (ticks .entry)) (now (states .entry)) (now (inputs .entry)))
+        (remotes .0) tick ⌝ }
+{
+    let cell = own(held, ticks, states, inputs, tick).of_tick(tick);
+    match cell {
+        Cell::Empty => false,
+        Cell::Holds(mine) => !all_agree(held, ticks, states, inputs, remotes, mine),
     }
+}
 
-    // What one of one's own cells can offer as the last tick agreed on below this one.
-    fn offer(self, remotes: PeerSet, tick: u64, cell: usize) -> LastAgreed
-        ensures { λ r. ⌜ r ≡ offer self (remotes .0) tick (cellAt self cell) ⌝ }
-    {
-        let own = self.at(cell);
-        match own {
-            Cell::Empty => LastAgreed::Never,
-            Cell::Holds(mine) => {
-                if mine.tick >= tick {
-                    return LastAgreed::Never;
-                }
-                if self.all_agree(remotes, mine) {
-                    return LastAgreed::At(mine.tick);
-                }
-                LastAgreed::Never
+// What one of one's own cells can offer as the last tick agreed on below this one.
+fn offer(
+    held: &[bool; CELLS],
+    ticks: &[u64; CELLS],
+    states: &[u64; CELLS],
+    inputs: &[u64; CELLS],
+    remotes: PeerSet,
+    tick: u64,
+    cell: usize,
+) -> LastAgreed
+    ensures { λ r. ⌜ r
+        ≡ offer (printsOf (now (held .entry)) (now (ticks .entry)) (now (states .entry)) (now (inputs .entry)))
+        (remotes .0) tick
+        (cellAt (printsOf (now (held .entry)) (now (ticks .entry)) (now (states .entry)) (now (inputs .entry)))
+        cell) ⌝ }
+{
+    let own = cell_at(held, ticks, states, inputs, cell);
+    match own {
+        Cell::Empty => LastAgreed::Never,
+        Cell::Holds(mine) => {
+            if mine.tick >= tick {
+                return LastAgreed::Never;
             }
+            if all_agree(held, ticks, states, inputs, remotes, mine) {
+                return LastAgreed::At(mine.tick);
+            }
+            LastAgreed::Never
         }
     }
+}
 
-    // The last of one's own ticks below this one that no remote's print denies.
-    pub fn last_agreed(self, remotes: PeerSet, tick: u64) -> LastAgreed
-        ensures { λ r. ⌜ r ≡ lastAgreed self (remotes .0) tick ⌝ }
-    {
-        let mut best = LastAgreed::Never;
-        for cell in 0..KEPT {
-            best = best.higher(self.offer(remotes, tick, cell));
-        }
-        best
+// The last of one's own ticks below this one that no remote's print denies.
+pub fn last_agreed(
+    held: &[bool; CELLS],
+    ticks: &[u64; CELLS],
+    states: &[u64; CELLS],
+    inputs: &[u64; CELLS],
+    remotes: PeerSet,
+    tick: u64,
+) -> LastAgreed
+    ensures { λ r. ⌜ r
+        ≡ lastAgreed (printsOf (now (held .entry)) (now (ticks .entry)) (now (states .entry)) (now (inputs .entry)))
+        (remotes .0) tick ⌝ }
+{
+    let mut best = LastAgreed::Never;
+    for cell in 0..KEPT {
+        best = best.higher(offer(held, ticks, states, inputs, remotes, tick, cell));
     }
+    best
 }

@@ -2,3 +2,4 @@ pub mod Cases
 pub mod Fronts
 pub mod Products
 pub mod Tabulated
+pub mod Sums

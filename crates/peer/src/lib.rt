@@ -81,7 +81,8 @@ impl PeerSet {
     pub fn count(self) -> u32
         ensures { λ r. ⌜ r ≡ seatCount seats (self .0) ⌝ }
     {
-        u8::count_ones(self.0)
+        let wide = self.0 as u64;
+        u64::count_ones(wide)
     }
 
     pub fn bits(self) -> Bits

@@ -14,6 +14,7 @@ use Rattle.window.specs.declared.Window.{Window}
 use Rattle.fingerprint.specs.Cells.{noPrints}
 use Rattle.fingerprint.specs.declared.Cell.the-variants.{Holds}
 use Rattle.stats.specs.Stats.{noStats}
+use Rattle.session.specs.Session.{sessionOf}
 use Rattle.session.specs.declared.Outcome.the-variants.{PeerLeft}
 use Rattle.session.specs.declared.Standing.{Standing}
 use Rattle.session.specs.declared.Standing.the-variants.{Open, Over}
@@ -24,6 +25,7 @@ use Rattle.pump.specs.declared.Outbound.{Outbound}
 use Rattle.pump.specs.declared.Outbound.the-variants.{Send, Nothing, BadState}
 use Rattle.pump.specs.Pump.{carried, runOf, pump}
 use Rattle.pump.proofs.Computing.{pumping}
+use Rattle.pump.proofs.Laws.{passMost}
 
 -- kind, tick and count, as the script runner prints them
 said : Body → List ℕ
@@ -58,24 +60,15 @@ seated count local = record {
 }
 
 at : SessionParams → Window → (pending next seen : ℕ) → Bool → Standing → Session
-at p w pending next seen playing outcome = record {
+at p w pending next seen playing outcome = sessionOf (record {
   params = p;
-  window = w;
-  pending = pending;
-  next = next;
-  digest = 0;
-  prints = noPrints;
+  play = record { pending = pending; «next_local» = next; digest = 0; step = Free; stalled = most };
+  marks = record { hellos = 1; playing = seen; started = playing };
+  pass = record { kind = Hello; place = 0 };
   owed = Holds (record { tick = 0; state = 5; input = 0 });
-  hellos = 1;
-  seen = seen;
-  playing = playing;
-  step = Free;
   outcome = outcome;
   stats = noStats;
-  stalled = most;
-  emit = Hello;
-  place = 0;
-}
+}) w noPrints
 
 -- case R: seat 1 has left, tick 0 is played, and the pump was not used before
 case-r : Session
@@ -98,12 +91,12 @@ whole-pass : lines 7 (playing-on pressed)
 unfolding pumping said line lines seated at pressed playing-on
 whole-pass = refl
 
-run-of-three : runOf (playing-on pressed) ≡ 0x41 ∷ 0x42 ∷ 0x43 ∷ replicate 125 0
+run-of-three : runOf (playing-on pressed .head) pressed ≡ 0x41 ∷ 0x42 ∷ 0x43 ∷ replicate 125 0
 unfolding pumping seated at pressed playing-on
 run-of-three = refl
 
 -- seat 0's frame for tick 65 empties the cell of tick 1: only the newest goes
-one-frame : carried (playing-on (writeFrame pressed 0 65 (1 ∷ []))) ≡ 1
+one-frame : carried (playing-on pressed .head) (writeFrame pressed 0 65 (1 ∷ [])) ≡ 1
 unfolding pumping seated at pressed playing-on
 one-frame = refl
 
@@ -112,3 +105,7 @@ no-inputs : lines 5 (playing-on (writeFrame pressed 0 66 (1 ∷ [])))
     ≡ (0 ∷ 3 ∷ 0 ∷ 0 ∷ []) ∷ (2 ∷ 3 ∷ 0 ∷ 0 ∷ []) ∷ (0 ∷ 5 ∷ 0 ∷ 0 ∷ []) ∷ (2 ∷ 5 ∷ 0 ∷ 0 ∷ []) ∷ (71 ∷ []) ∷ []
 unfolding pumping said line lines seated at pressed playing-on
 no-inputs = refl
+
+-- the most messages of a pass, at eight seats
+pass-of-21 : passMost ≡ 21
+pass-of-21 = refl

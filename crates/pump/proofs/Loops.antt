@@ -1,31 +1,31 @@
 -- What a turn of each loop does: the search for the next seat, the count of held frames, and a byte of a run. And what
 -- comes of a kind's message. Assumes nothing.
 use Prim.Native.Nat.{ℕ, zero, suc, _+_, _-_, _*_, _/_, _%_, _<_, _≤_}
-use mathlib.Core.Path.{_≡_, sym, ap, _∙_}
+use mathlib.Core.Path.{_≡_, refl, sym, ap, _∙_}
 use mathlib.Core.Bool.{true, false}
 use mathlib.Core.List.{List}
 use native.Mathlib.Omega.{arith}
 use native.Mathlib.Nat.{mod-lt, div-lt-iff-lt-mul}
 use lib.Dec.{ltb}
-use lib.ListN.{getD, take, drop}
-use lib.Seq.{getD-take, getD-drop}
+use lib.ListN.{getD, set, replicate, take, drop, getD-replicate}
+use lib.Seq.{getD-take, getD-drop, getD-set-other, ext-getD}
 use borrow.Author.Tests.{eqb-false, lt-ltb, eq-eqb, ne-eqb}
 use Rattle.logic.specs.Test.{if_then_else_}
-use Rattle.logic.proofs.Cases.{byTest, if-true, if-false}
+use Rattle.logic.specs.Tabulate.{tabulate}
+use Rattle.logic.proofs.Cases.{byTest, caseLt, if-true, if-false}
+use Rattle.logic.proofs.Tabulated.{Filled, filled-none, filled-more, length-tabulate, getD-tabulate}
 use Rattle.peer.specs.Seats.{seats, has}
-use Rattle.peer.specs.Cells.{window, slotOf}
-use Rattle.params.specs.Params.{maxWidth}
 use Rattle.wire.specs.Wire.{redundancy}
 use Rattle.wire.specs.declared.Body.{Body}
 use Rattle.window.specs.Window.{isHeld, frameStart}
 use Rattle.window.specs.declared.Window.{Window}
 use Rattle.session.specs.declared.Emit.{Emit}
-use Rattle.session.specs.declared.Session.{Session}
+use Rattle.session.specs.declared.Head.{Head}
 use Rattle.pump.specs.declared.Target.the-variants.{Nobody, Seat}
 use Rattle.pump.specs.declared.Say.{Say}
 use Rattle.pump.specs.declared.Say.the-variants.{No, To}
-use Rattle.pump.specs.declared.Pumped.{Pumped}
-use Rattle.pump.specs.Pump.{nextRemote, span, carried, send, sent}
+use Rattle.pump.specs.declared.HeadPumped.{HeadPumped}
+use Rattle.pump.specs.Pump.{nextRemote, span, carried, runBytes, send, sent}
 
 -- ---- the next seat: this one, one after it, or none
 
@@ -86,18 +86,19 @@ span-ticks w seat tick (suc n) =
     (λ e. let z = eqb-false tick 0 e in omega (arith, span-ticks w seat (tick - 1) n)))
     (λ _. omega arith)
 
-pub carried-le : (s : Session) → carried s ≤ redundancy
-unfolding carried
-carried-le s =
-    byTest (λ (x : ℕ). x ≤ redundancy) (λ _. omega arith)
-    (λ _. span-le (s .window) (s .params .local) (s .next - 1) redundancy)
+module _ (h : Head) (w : Window) where
+  pub carried-le : carried h w ≤ redundancy
+  unfolding carried
+  carried-le =
+      byTest (λ (x : ℕ). x ≤ redundancy) (λ _. omega arith)
+      (λ _. span-le w (h .params .local) (h .play .«next_local» - 1) redundancy)
 
-pub carried-next : (s : Session) → carried s ≤ s .next
-unfolding carried
-carried-next s =
-    byTest (λ (x : ℕ). x ≤ s .next) (λ _. omega arith)
-    (λ e. let z = eqb-false (s .next) 0 e in
-    omega (arith, span-ticks (s .window) (s .params .local) (s .next - 1) redundancy))
+  pub carried-next : carried h w ≤ h .play .«next_local»
+  unfolding carried
+  carried-next =
+      byTest (λ (x : ℕ). x ≤ h .play .«next_local») (λ _. omega arith)
+      (λ e. let z = eqb-false (h .play .«next_local») 0 e in
+      omega (arith, span-ticks w (h .params .local) (h .play .«next_local» - 1) redundancy))
 
 -- ---- a byte of a run
 
@@ -109,7 +110,7 @@ module _ (ring : List ℕ) (seat first count width j : ℕ) (some : 1 ≤ width)
   byte-lt = mod-lt j some
 
   pub run-byte-is :
-      getD ring ((seat * window + slotOf (first + j / width)) * maxWidth + j % width) 0
+      getD ring (frameStart seat (first + j / width) + j % width) 0
       ≡ if ltb j (count * width)
       then getD (take width (drop (frameStart seat (first + j / width)) ring)) (j % width) 0 else 0
   run-byte-is =
@@ -118,13 +119,39 @@ module _ (ring : List ℕ) (seat first count width j : ℕ) (some : 1 ≤ width)
       ∙ getD-take width (drop (frameStart seat (first + j / width)) ring) (j % width) 0 byte-lt
       ∙ getD-drop (frameStart seat (first + j / width)) ring (j % width) 0)
 
+-- ---- a run that a loop fills from the front, and that is zero from there on
+
+pub record RunTo (f : ℕ → ℕ) (n : ℕ) (run : List ℕ) : Type 0 where
+  pub front : Filled 0 f runBytes n run
+  pub rest : (k : ℕ) → n ≤ k → k < runBytes → getD run k 0 ≡ 0
+
+module _ {f : ℕ → ℕ} where
+  pub run-none : RunTo f 0 (replicate runBytes 0)
+  run-none = record { front = filled-none refl; rest = λ k l m. getD-replicate runBytes k 0 0 m }
+
+  pub run-more : {n : ℕ} {run : List ℕ} {x : ℕ} → RunTo f n run → n < runBytes → x ≡ f n
+      → RunTo f (n + 1) (set run n x)
+  run-more {n} {run} {x} r l e = record {
+    front = filled-more (r .front) l e;
+    rest = λ k l m. getD-set-other run n k x 0 (λ q. omega arith) ∙ r .rest k (omega arith) m;
+  }
+
+  -- where nothing but zeros is left to fill
+  pub run-whole : {n : ℕ} {run : List ℕ} → RunTo f n run → ((k : ℕ) → n ≤ k → k < runBytes → f k ≡ 0)
+      → run ≡ tabulate runBytes f
+  run-whole {n} {run} r zeros =
+      ext-getD 0 run (tabulate runBytes f) (r .front .long ∙ sym (length-tabulate runBytes f)) (λ k l.
+      let here : k < runBytes = omega (arith, l, r .front .long) in
+      caseLt k n (λ m. r .front .at k m) (λ m. r .rest k m here ∙ sym (zeros k m here))
+      ∙ sym (getD-tabulate runBytes f 0 k here))
+
 -- ---- what comes of a kind's message
 
-module _ (s : Session) (emit : Emit) (rest : Pumped) {x : Say} where
-  pub sent-one : {k : ℕ} {body : Body} → x ≡ To k body → sent s emit x rest ≡ send s emit k body
+module _ (h : Head) (w : Window) (emit : Emit) (rest : HeadPumped) {x : Say} where
+  pub sent-one : {k : ℕ} {body : Body} → x ≡ To k body → sent h w emit x rest ≡ send h w emit k body
   unfolding sent
-  sent-one e = ap (λ (y : Say). sent s emit y rest) e
+  sent-one e = ap (λ (y : Say). sent h w emit y rest) e
 
-  pub sent-none : x ≡ No → sent s emit x rest ≡ rest
+  pub sent-none : x ≡ No → sent h w emit x rest ≡ rest
   unfolding sent
-  sent-none e = ap (λ (y : Say). sent s emit y rest) e
+  sent-none e = ap (λ (y : Say). sent h w emit y rest) e

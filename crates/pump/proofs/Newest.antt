@@ -14,7 +14,7 @@ use borrow.Author.Tests.{eqb-true, eqb-false, lt-ltb, le-ltb}
 use Rattle.logic.specs.Test.{if_then_else_}
 use Rattle.logic.proofs.Cases.{byTest, if-true, if-false}
 use Rattle.logic.proofs.Tabulated.{length-tabulate, getD-tabulate}
-use Rattle.peer.specs.Seats.{seats, has}
+use Rattle.peer.specs.Seats.{seats}
 use Rattle.params.specs.Params.{maxWidth, badState}
 use Rattle.params.proofs.Laws.{sound}
 use Rattle.wire.specs.Wire.{redundancy}
@@ -29,6 +29,7 @@ use Rattle.fingerprint.specs.declared.Cell.{Cell}
 use Rattle.fingerprint.specs.declared.Cell.the-variants.{Empty, Holds}
 use Rattle.session.specs.declared.Emit.{Emit}
 use Rattle.session.specs.declared.Emit.the-variants.{Hello, Inputs, Digest, Bye, Done}
+use Rattle.session.specs.declared.Head.{Head}
 use Rattle.session.specs.declared.Session.{Session}
 use Rattle.pump.specs.declared.Saying.{Saying}
 use Rattle.pump.specs.declared.Saying.the-variants.{Says}
@@ -85,41 +86,39 @@ module _ (w : Window) (seat : ℕ) where
       }))
       (λ e. record { so = λ l m. let q : tick - 0 ≡ tick = omega arith in rw q e }))
 
--- the frames end at the newest
-pub carried-newest : (s : Session) → firstTick s + carried s ≡ s .next
-carried-newest s = omega (arith, carried-next s)
+module _ (h : Head) (w : Window) where
+  -- the frames end at the newest
+  pub carried-newest : firstTick h w + carried h w ≡ h .play .«next_local»
+  carried-newest = omega (arith, carried-next h w)
 
-pub carried-held : (s : Session) (i : ℕ) → i < carried s
-    → isHeld (s .window) (s .params .local) (firstTick s + i) ≡ true
-unfolding carried
-carried-held s i =
-    byTest (λ (x : ℕ). i < x → isHeld (s .window) (s .params .local) (s .next - x + i) ≡ true)
-    (λ _ l. absurd (omega arith))
-    (λ e l.
-    let w = s .window in
-    let seat = s .params .local in
-    let tick = s .next - 1 in
-    let n = span w seat tick redundancy in
-    let q : s .next - n + i ≡ tick - (n - 1 - i) =
-    omega (arith, span-ticks w seat tick redundancy, eqb-false (s .next) 0 e) in
-    rw q (span-held w seat tick redundancy (n - 1 - i) (omega arith)))
+  pub carried-held : (i : ℕ) → i < carried h w → isHeld w (h .params .local) (firstTick h w + i) ≡ true
+  unfolding carried
+  carried-held i =
+      let next = h .play .«next_local» in
+      let seat = h .params .local in
+      byTest (λ (x : ℕ). i < x → isHeld w seat (next - x + i) ≡ true) (λ _ l. absurd (omega arith))
+      (λ e l.
+      let tick = next - 1 in
+      let n = span w seat tick redundancy in
+      let q : next - n + i ≡ tick - (n - 1 - i) =
+      omega (arith, span-ticks w seat tick redundancy, eqb-false next 0 e) in
+      rw q (span-held w seat tick redundancy (n - 1 - i) (omega arith)))
 
--- and start at the eighth, at tick 0, or after one that is no longer held
-pub carried-stops : (s : Session) → carried s < redundancy → 1 ≤ firstTick s
-    → isHeld (s .window) (s .params .local) (firstTick s - 1) ≡ false
-unfolding carried
-carried-stops s =
-    byTest
-    (λ (x : ℕ). x < redundancy → 1 ≤ s .next - x → isHeld (s .window) (s .params .local) (s .next - x - 1) ≡ false)
-    {b = eqb (s .next) 0} {x = 0} {y = span (s .window) (s .params .local) (s .next - 1) redundancy}
-    (λ e l m. absurd (omega (arith, eqb-true (s .next) 0 e)))
-    (λ e l m.
-    let w = s .window in
-    let seat = s .params .local in
-    let tick = s .next - 1 in
-    let n = span w seat tick redundancy in
-    let q : s .next - n - 1 ≡ tick - n = omega arith in
-    rw q (span-stops w seat tick redundancy .so l (omega arith)))
+  -- and start at the eighth, at tick 0, or after one that is no longer held
+  pub carried-stops : carried h w < redundancy → 1 ≤ firstTick h w
+      → isHeld w (h .params .local) (firstTick h w - 1) ≡ false
+  unfolding carried
+  carried-stops =
+      let next = h .play .«next_local» in
+      let seat = h .params .local in
+      byTest (λ (x : ℕ). x < redundancy → 1 ≤ next - x → isHeld w seat (next - x - 1) ≡ false)
+      {b = eqb next 0} {x = 0} {y = span w seat (next - 1) redundancy}
+      (λ e l m. absurd (omega (arith, eqb-true next 0 e)))
+      (λ e l m.
+      let tick = next - 1 in
+      let n = span w seat tick redundancy in
+      let q : next - n - 1 ≡ tick - n = omega arith in
+      rw q (span-stops w seat tick redundancy .so l (omega arith)))
 
 -- the run: zero past the frames, and each frame in its place
 module _ (w : Window) (seat first count width : ℕ) where
@@ -164,48 +163,55 @@ module _ (w : Window) (seat first count width : ℕ) where
 pub record Carries (s : Session) (b : InputsBody) (run : List ℕ) : Type 0 where
   pub some : 1 ≤ b .count
   pub most : b .count ≤ redundancy
-  pub width : b .width ≡ s .params .width
-  pub newest : b .first + b .count ≡ s .next
-  pub held : (i : ℕ) → i < b .count → isHeld (s .window) (s .params .local) (b .first + i) ≡ true
+  pub width : b .width ≡ s .head .params .width
+  pub newest : b .first + b .count ≡ s .head .play .«next_local»
+  pub held : (i : ℕ) → i < b .count → isHeld (s .window) (s .head .params .local) (b .first + i) ≡ true
   pub frame : (i : ℕ) → i < b .count
-      → frameAt run (b .width) i ≡ frameOf (s .window) (s .params .local) (b .first + i) (b .width)
+      → frameAt run (b .width) i ≡ frameOf (s .window) (s .head .params .local) (b .first + i) (b .width)
 
-abbrev inputsNow : Session → InputsBody
-inputsNow s = record { first = firstTick s; count = carried s; width = s .params .width }
+abbrev inputsNow : Head → Window → InputsBody
+inputsNow h w = record { first = firstTick h w; count = carried h w; width = h .params .width }
 
-carries : (s : Session) → badState (s .params) ≡ false → Sized (s .window) → (carried s ≡ 0 → ⊥)
-    → Carries s (inputsNow s) (runOf s)
+carries : (s : Session) → badState (s .head .params) ≡ false → Sized (s .window)
+    → (carried (s .head) (s .window) ≡ 0 → ⊥)
+    → Carries s (inputsNow (s .head) (s .window)) (runOf (s .head) (s .window))
 unfolding runOf
 carries s good ok some =
-    let p = sound (s .params) good in
+    let h = s .head in
+    let w = s .window in
+    let p = sound (h .params) good in
     record {
       some = omega (arith, some);
-      most = carried-le s;
+      most = carried-le h w;
       width = refl;
-      newest = carried-newest s;
-      held = carried-held s;
+      newest = carried-newest h w;
+      held = carried-held h w;
       frame =
-          run-frame (s .window) (s .params .local) (firstTick s) (carried s) (s .params .width) ok
-          (omega (arith, p .local, p .count .greatest)) (p .width .greatest) (carried-le s);
+          run-frame w (h .params .local) (firstTick h w) (carried h w) (h .params .width) ok
+          (omega (arith, p .local, p .count .greatest)) (p .width .greatest) (carried-le h w);
     }
 
 -- the kind that says an Inputs
-says-inputs : (s : Session) (emit : Emit) (b : InputsBody) → saying s emit ≡ Says (Body′.Inputs b)
-    → (carried s ≡ 0 → ⊥) × (inputsNow s ≡ b)
-unfolding saying inputsOf digestOf
-says-inputs s Hello b e = let z : _≡_ {A = ℕ} 0 1 = cc in absurd (omega arith)
-says-inputs s Inputs b e =
-    byTest (λ (x : Saying). x ≡ Says (Body′.Inputs b) → (carried s ≡ 0 → ⊥) × (inputsNow s ≡ b))
-    (λ _ e. let z : _≡_ {A = ℕ} 0 1 = cc in absurd (omega arith))
-    (λ t e. (eqb-false (carried s) 0 t, cc))
-    e
-says-inputs s Digest b e = owed-not (s .owed) e
-  where
-    owed-not : (x : Cell) → digestOf x ≡ Says (Body′.Inputs b) → (carried s ≡ 0 → ⊥) × (inputsNow s ≡ b)
-    owed-not Empty e = let z : _≡_ {A = ℕ} 0 1 = cc in absurd (omega arith)
-    owed-not (Holds f) e = let z : _≡_ {A = ℕ} 0 1 = cc in absurd (omega arith)
-says-inputs s Bye b e = let z : _≡_ {A = ℕ} 0 1 = cc in absurd (omega arith)
-says-inputs s Done b e = let z : _≡_ {A = ℕ} 0 1 = cc in absurd (omega arith)
+module _ (h : Head) (w : Window) (b : InputsBody) where
+  abbrev AsNow : Type 0
+  AsNow = (carried h w ≡ 0 → ⊥) × (inputsNow h w ≡ b)
+
+  owed-not : (x : Cell) → digestOf x ≡ Says (Body′.Inputs b) → AsNow
+  unfolding digestOf
+  owed-not Empty e = let z : _≡_ {A = ℕ} 0 1 = cc in absurd (omega arith)
+  owed-not (Holds f) e = let z : _≡_ {A = ℕ} 0 1 = cc in absurd (omega arith)
+
+  says-inputs : (emit : Emit) → saying h w emit ≡ Says (Body′.Inputs b) → AsNow
+  unfolding saying inputsOf
+  says-inputs Hello e = let z : _≡_ {A = ℕ} 0 1 = cc in absurd (omega arith)
+  says-inputs Inputs e =
+      byTest (λ (x : Saying). x ≡ Says (Body′.Inputs b) → AsNow)
+      (λ _ e. let z : _≡_ {A = ℕ} 0 1 = cc in absurd (omega arith))
+      (λ t e. (eqb-false (carried h w) 0 t, cc))
+      e
+  says-inputs Digest e = owed-not (h .owed) e
+  says-inputs Bye e = let z : _≡_ {A = ℕ} 0 1 = cc in absurd (omega arith)
+  says-inputs Done e = let z : _≡_ {A = ℕ} 0 1 = cc in absurd (omega arith)
 
 -- an Inputs that is sent carries exactly the newest frames that are held without a gap
 pub inputs-sent : (s : Session) (k : ℕ) (m : Message) (b : InputsBody)
@@ -218,5 +224,5 @@ inputs-sent s k m b ok = from (pump-is s)
     from (ended good) e q = let z : _≡_ {A = ℕ} 0 1 = cc in absurd (omega arith)
     from (sends emit place j body good t h) e q =
         let is : body ≡ Body′.Inputs b = ap (λ (x : Message). x .body) (message-of e) ∙ q in
-        let both = says-inputs s emit b (told s emit place j body t .says ∙ ap Says is) in
+        let both = says-inputs (s .head) (s .window) b emit (told s emit place j body t .says ∙ ap Says is) in
         rw (is, ← both .1) (carries s good ok (both .0))

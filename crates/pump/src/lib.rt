@@ -1,8 +1,10 @@
 // The pump: what a session sends next. A pass goes kind by kind, each over the other seats, and answers with one
-// message a call until it has come to its end.
+// message a call until it has come to its end. It changes nothing but the head; the window's arrays are lent to it, and
+// only read.
 ghost use mathlib.Core.Path.{_≡_};
 ghost use mathlib.Core.Bool.{false};
-ghost use Prim.Native.Nat.{_+_, _-_, _*_, _/_, _%_, _<_, _≤_, min};
+ghost use mathlib.Core.List.{List};
+ghost use Prim.Native.Nat.{ℕ, _+_, _-_, _*_, _/_, _%_, _<_, _≤_, min};
 ghost use lib.Dec.{ltb};
 ghost use lib.ListN.{getD, take, drop};
 ghost use Rattle.logic.specs.Test.{if_then_else_};
@@ -10,20 +12,24 @@ ghost use Rattle.logic.specs.Saturating.{most};
 ghost use Rattle.peer.specs.Seats.{seats};
 ghost use Rattle.params.specs.Params.{maxWidth, badState};
 ghost use Rattle.wire.specs.Wire.{redundancy};
-ghost use Rattle.window.specs.Window.{frameStart};
+ghost use Rattle.window.specs.Window.{frameStart, windowOf};
+ghost use Rattle.fingerprint.specs.declared.Fingerprints as Fingerprints′;
+ghost use Rattle.session.specs.Session.{sessionOf};
 ghost use Rattle.pump.specs.Numbers.{outboundNo};
 ghost use Rattle.pump.specs.declared.Outbound.the-variants.{Nothing};
 ghost use Rattle.pump.specs.Pump.{quiet, nextRemote, span, carried, runFrom, runOf, helloOf, inputsOf};
 ghost use Rattle.pump.specs.Pump.{digestOf, saying, addressed, say, isOwed, firstKind, passEnds, runBeside};
-ghost use Rattle.pump.specs.Pump.{send, pumpDigest, pumpInputs, pumpHello, pumpBye, pumpFrom, pump};
+ghost use Rattle.pump.specs.Pump.{send, pumpDigest, pumpInputs, pumpHello, pumpBye, pumpFrom, pumped, pump};
 use fingerprint::Cell;
+use logic::least;
 use logic::wide;
 use params::SessionParams;
 use peer::PeerSet;
 use session::Emit;
+use session::Head;
+use session::Pass;
 use session::Session;
 use session::Standing;
-use window::Window;
 use wire::Body;
 use wire::ByeBody;
 use wire::DigestBody;
@@ -44,6 +50,13 @@ pub enum Outbound {
 // that is no Inputs.
 pub struct Pumped {
     pub session: Session,
+    pub answer: Outbound,
+    pub run: [u8; RUN],
+}
+
+// The same of the call in place.
+pub struct HeadPumped {
+    pub head: Head,
     pub answer: Outbound,
     pub run: [u8; RUN],
 }
@@ -83,11 +96,11 @@ impl Outbound {
 }
 
 // An answer with no run.
-fn quiet(s: Session, answer: Outbound) -> Pumped
-    ensures { λ r. ⌜ r ≡ quiet s answer ⌝ }
+fn quiet(h: Head, answer: Outbound) -> HeadPumped
+    ensures { λ r. ⌜ r ≡ quiet h answer ⌝ }
 {
-    Pumped {
-        session: s,
+    HeadPumped {
+        head: h,
         answer: answer,
         run: [0u8; RUN],
     }
@@ -107,19 +120,20 @@ fn next_remote(remotes: PeerSet, place: u8) -> Target
     Target::Nobody
 }
 
-// How many frames of the seat are held without a gap, from the newest back. The cells are looked at here and not by
-// `holds`: a call by value copies the window for each tick.
-fn span(w: Window, seat: u8, newest: u64) -> u8
-    ensures { λ r. ⌜ r ≡ span w seat newest redundancy ⌝ }
+// How many frames of the seat are held without a gap, from the newest back.
+fn span(
+    ticks: &[u64; window::SLOTS],
+    present: &[peer::Bits; window::SLOTS],
+    seat: u8,
+    newest: u64,
+) -> u8
+    ensures { λ r. ⌜ ((ring : List ℕ) →
+        r ≡ span (windowOf ring (now (ticks .entry)) (now (present .entry))) seat newest redundancy) ⌝ }
 {
     let mut tick = newest;
     let mut n: u8 = 0;
     while n < wire::REDUNDANCY {
-        let cell = peer::slot(tick);
-        if w.ticks[cell] != tick {
-            return n;
-        }
-        if !PeerSet(w.present[cell]).contains(seat) {
+        if !window::holds(ticks, present, seat, tick) {
             return n;
         }
         n += 1;
@@ -132,13 +146,15 @@ fn span(w: Window, seat: u8, newest: u64) -> u8
 }
 
 // How many frames an Inputs carries now.
-fn carried(s: Session) -> u8
-    ensures { λ r. ⌜ r ≡ carried s ⌝ }
+fn carried(h: Head, ticks: &[u64; window::SLOTS], present: &[peer::Bits; window::SLOTS]) -> u8
+    ensures { λ r. ⌜ ((ring : List ℕ) →
+        r ≡ carried h (windowOf ring (now (ticks .entry)) (now (present .entry)))) ⌝ }
 {
-    if s.next == 0 {
+    let next = h.play.next_local;
+    if next == 0 {
         return 0;
     }
-    span(s.window, s.params.local, s.next - 1)
+    span(ticks, present, h.params.local, next - 1)
 }
 
 // Byte j of the run of `count` frames of a seat from the tick `first` on: byte j mod width of frame j div width.
@@ -153,30 +169,37 @@ fn run_byte(ring: &[u8; window::RING], seat: u8, first: u64, count: u8, width: u
         return 0;
     }
     let tick = first + (j / n) as u64;
-    ring[(wide(seat) * 64 + peer::slot(tick)) * 16 + j % n]
+    ring[window::frame_start(seat, tick) + j % n]
 }
 
-// The run of `count` frames of a seat, from the tick `first` on.
-fn run_from(w: Window, seat: u8, first: u64, count: u8, width: u8) -> [u8; RUN]
+// The run of `count` frames of a seat, from the tick `first` on; past the frames it is zero.
+fn run_from(ring: &[u8; window::RING], seat: u8, first: u64, count: u8, width: u8) -> [u8; RUN]
     requires { ⌜ (seat < seats) × (1 ≤ width) × (width ≤ maxWidth) × (first + count ≤ most) ⌝ }
-    ensures { λ r. ⌜ r ≡ runFrom w seat first count width ⌝ }
+    ensures { λ r. ⌜ ((ticks present : List ℕ) →
+        r ≡ runFrom (windowOf (now (ring .entry)) ticks present) seat first count width) ⌝ }
 {
+    let end = least(wide(count) * wide(width), RUN);
     let mut run = [0u8; RUN];
     let mut j: usize = 0;
-    while j < RUN {
-        run[j] = run_byte(&w.ring, seat, first, count, width, j);
+    while j < end {
+        run[j] = run_byte(ring, seat, first, count, width, j);
         j += 1;
     }
     run
 }
 
-fn run_of(s: Session) -> [u8; RUN]
-    requires { ⌜ badState (s .params) ≡ false ⌝ }
-    ensures { λ r. ⌜ r ≡ runOf s ⌝ }
+fn run_of(
+    h: Head,
+    ring: &[u8; window::RING],
+    ticks: &[u64; window::SLOTS],
+    present: &[peer::Bits; window::SLOTS],
+) -> [u8; RUN]
+    requires { ⌜ badState (h .params) ≡ false ⌝ }
+    ensures { λ r. ⌜ r ≡ runOf h (windowOf (now (ring .entry)) (now (ticks .entry)) (now (present .entry))) ⌝ }
 {
-    let count = carried(s);
-    let first = s.next - count as u64;
-    run_from(s.window, s.params.local, first, count, s.params.width)
+    let count = carried(h, ticks, present);
+    let first = h.play.next_local - logic::long(count);
+    run_from(ring, h.params.local, first, count, h.params.width)
 }
 
 fn hello_of(p: SessionParams) -> HelloBody
@@ -195,17 +218,19 @@ fn hello_of(p: SessionParams) -> HelloBody
 }
 
 // The newest local frame and those before it that are still held. With the newest gone there is nothing to say.
-fn inputs_of(s: Session) -> Saying
-    ensures { λ r. ⌜ r ≡ inputsOf s ⌝ }
+fn inputs_of(h: Head, ticks: &[u64; window::SLOTS], present: &[peer::Bits; window::SLOTS]) -> Saying
+    ensures { λ r. ⌜ ((ring : List ℕ) →
+        r ≡ inputsOf h (windowOf ring (now (ticks .entry)) (now (present .entry)))) ⌝ }
 {
-    let count = carried(s);
+    let count = carried(h, ticks, present);
     if count == 0 {
         return Saying::Silent;
     }
+    let first = h.play.next_local - logic::long(count);
     Saying::Says(Body::Inputs(InputsBody {
-        first: s.next - count as u64,
+        first: first,
         count: count,
-        width: s.params.width,
+        width: h.params.width,
     }))
 }
 
@@ -222,16 +247,22 @@ fn digest_of(owed: Cell) -> Saying
     }
 }
 
-fn kind_says(s: Session, emit: Emit) -> Saying
-    ensures { λ r. ⌜ r ≡ saying s emit ⌝ }
+fn kind_says(
+    h: Head,
+    ticks: &[u64; window::SLOTS],
+    present: &[peer::Bits; window::SLOTS],
+    emit: Emit,
+) -> Saying
+    ensures { λ r. ⌜ ((ring : List ℕ) →
+        r ≡ saying h (windowOf ring (now (ticks .entry)) (now (present .entry))) emit) ⌝ }
 {
-    let cell = s.owed;
+    let cell = h.owed;
     match emit {
-        Emit::Hello => Saying::Says(Body::Hello(hello_of(s.params))),
-        Emit::Inputs => inputs_of(s),
+        Emit::Hello => Saying::Says(Body::Hello(hello_of(h.params))),
+        Emit::Inputs => inputs_of(h, ticks, present),
         Emit::Digest => digest_of(cell),
         Emit::Bye => Saying::Says(Body::Bye(ByeBody {
-            tick: logic::saturating_sub(s.pending, 1),
+            tick: logic::saturating_sub(h.play.pending, 1),
         })),
         Emit::Done => Saying::Silent,
     }
@@ -250,13 +281,20 @@ fn addressed(peer: u8, what: Saying) -> Say
 }
 
 // What a kind says, to the next seat from `place` on.
-fn say_next(s: Session, emit: Emit, place: u8) -> Say
-    ensures { λ r. ⌜ r ≡ say s emit place ⌝ }
+fn say_next(
+    h: Head,
+    ticks: &[u64; window::SLOTS],
+    present: &[peer::Bits; window::SLOTS],
+    emit: Emit,
+    place: u8,
+) -> Say
+    ensures { λ r. ⌜ ((ring : List ℕ) →
+        r ≡ say h (windowOf ring (now (ticks .entry)) (now (present .entry))) emit place) ⌝ }
 {
-    let target = next_remote(s.params.remotes(), place);
+    let target = next_remote(h.params.remotes(), place);
     match target {
         Target::Nobody => Say::No,
-        Target::Seat(k) => addressed(k, kind_says(s, emit)),
+        Target::Seat(k) => addressed(k, kind_says(h, ticks, present, emit)),
     }
 }
 
@@ -270,30 +308,31 @@ fn is_owed(owed: Cell) -> bool
 }
 
 // The kind that a pass starts with.
-fn first_kind(s: Session) -> Emit
-    ensures { λ r. ⌜ r ≡ firstKind s ⌝ }
+fn first_kind(h: Head) -> Emit
+    ensures { λ r. ⌜ r ≡ firstKind h ⌝ }
 {
-    let standing = s.outcome;
+    let standing = h.outcome;
     if let Standing::Over(_) = standing {
         return Emit::Bye;
     }
-    if !shown::is_playing(s) {
+    if !shown::is_playing(h) {
         return Emit::Hello;
     }
-    if s.params.remotes().subset(PeerSet(s.seen)) {
+    if h.params.remotes().subset(PeerSet(h.marks.playing)) {
         return Emit::Inputs;
     }
     Emit::Hello
 }
 
-fn pass_ends(s: Session) -> Pumped
-    ensures { λ r. ⌜ r ≡ passEnds s ⌝ }
+fn pass_ends(h: Head) -> HeadPumped
+    ensures { λ r. ⌜ r ≡ passEnds h ⌝ }
 {
-    let kind = first_kind(s);
-    let next = Session {
-        emit: kind,
-        place: 0,
-        ..s
+    let next = Head {
+        pass: Pass {
+            kind: first_kind(h),
+            place: 0,
+        },
+        ..h
     };
     quiet(next, Outbound::Nothing)
 }
@@ -307,36 +346,53 @@ fn after(peer: u8) -> u8
     255
 }
 
-fn run_beside(s: Session, body: Body) -> [u8; RUN]
-    requires { ⌜ badState (s .params) ≡ false ⌝ }
-    ensures { λ r. ⌜ r ≡ runBeside s body ⌝ }
+fn run_beside(
+    h: Head,
+    ring: &[u8; window::RING],
+    ticks: &[u64; window::SLOTS],
+    present: &[peer::Bits; window::SLOTS],
+    body: Body,
+) -> [u8; RUN]
+    requires { ⌜ badState (h .params) ≡ false ⌝ }
+    ensures { λ r. ⌜ r ≡ runBeside h (windowOf (now (ring .entry)) (now (ticks .entry)) (now (present .entry))) body ⌝ }
 {
     match body {
         Body::Hello(_) => [0u8; RUN],
-        Body::Inputs(_) => run_of(s),
+        Body::Inputs(_) => run_of(h, ring, ticks, present),
         Body::Digest(_) => [0u8; RUN],
         Body::Bye(_) => [0u8; RUN],
         Body::Other(_) => [0u8; RUN],
     }
 }
 
-fn send(s: Session, emit: Emit, peer: u8, body: Body) -> Pumped
-    requires { ⌜ badState (s .params) ≡ false ⌝ }
-    ensures { λ r. ⌜ r ≡ send s emit peer body ⌝ }
+fn send(
+    h: Head,
+    ring: &[u8; window::RING],
+    ticks: &[u64; window::SLOTS],
+    present: &[peer::Bits; window::SLOTS],
+    emit: Emit,
+    peer: u8,
+    body: Body,
+) -> HeadPumped
+    requires { ⌜ badState (h .params) ≡ false ⌝ }
+    ensures { λ r. ⌜ r
+        ≡ send h (windowOf (now (ring .entry)) (now (ticks .entry)) (now (present .entry))) emit peer body ⌝ }
 {
-    let run = run_beside(s, body);
+    let run = run_beside(h, ring, ticks, present, body);
     let message = Message {
-        sender: s.params.local,
-        session: s.params.session,
+        sender: h.params.local,
+        session: h.params.session,
         body: body,
     };
-    let next = Session {
-        emit: emit,
-        place: after(peer),
-        ..s
+    let next = Head {
+        pass: Pass {
+            kind: emit,
+            place: after(peer),
+        },
+        ..h
     };
-    Pumped {
-        session: next,
+    HeadPumped {
+        head: next,
         answer: Outbound::Send {
             peer: peer,
             message: message,
@@ -347,77 +403,140 @@ fn send(s: Session, emit: Emit, peer: u8, body: Body) -> Pumped
 
 // ---- each kind, from a seat on; with nothing left of it, what comes after it in the pass
 
-fn pump_digest(s: Session, place: u8) -> Pumped
-    requires { ⌜ badState (s .params) ≡ false ⌝ }
-    ensures { λ r. ⌜ r ≡ pumpDigest s place ⌝ }
+fn pump_digest(
+    h: Head,
+    ring: &[u8; window::RING],
+    ticks: &[u64; window::SLOTS],
+    present: &[peer::Bits; window::SLOTS],
+    place: u8,
+) -> HeadPumped
+    requires { ⌜ badState (h .params) ≡ false ⌝ }
+    ensures { λ r. ⌜ r
+        ≡ pumpDigest h (windowOf (now (ring .entry)) (now (ticks .entry)) (now (present .entry))) place ⌝ }
 {
-    let said = say_next(s, Emit::Digest, place);
+    let said = say_next(h, ticks, present, Emit::Digest, place);
     if let Say::To { peer, body } = said {
-        return send(s, Emit::Digest, peer, body);
+        return send(h, ring, ticks, present, Emit::Digest, peer, body);
     }
-    pass_ends(s)
+    pass_ends(h)
 }
 
-fn pump_inputs(s: Session, place: u8) -> Pumped
-    requires { ⌜ badState (s .params) ≡ false ⌝ }
-    ensures { λ r. ⌜ r ≡ pumpInputs s place ⌝ }
+fn pump_inputs(
+    h: Head,
+    ring: &[u8; window::RING],
+    ticks: &[u64; window::SLOTS],
+    present: &[peer::Bits; window::SLOTS],
+    place: u8,
+) -> HeadPumped
+    requires { ⌜ badState (h .params) ≡ false ⌝ }
+    ensures { λ r. ⌜ r
+        ≡ pumpInputs h (windowOf (now (ring .entry)) (now (ticks .entry)) (now (present .entry))) place ⌝ }
 {
-    let said = say_next(s, Emit::Inputs, place);
+    let said = say_next(h, ticks, present, Emit::Inputs, place);
     if let Say::To { peer, body } = said {
-        return send(s, Emit::Inputs, peer, body);
+        return send(h, ring, ticks, present, Emit::Inputs, peer, body);
     }
-    let owed = s.owed;
+    let owed = h.owed;
     if is_owed(owed) {
-        return pump_digest(s, 0);
+        return pump_digest(h, ring, ticks, present, 0);
     }
-    pass_ends(s)
+    pass_ends(h)
 }
 
-fn pump_hello(s: Session, place: u8) -> Pumped
-    requires { ⌜ badState (s .params) ≡ false ⌝ }
-    ensures { λ r. ⌜ r ≡ pumpHello s place ⌝ }
+fn pump_hello(
+    h: Head,
+    ring: &[u8; window::RING],
+    ticks: &[u64; window::SLOTS],
+    present: &[peer::Bits; window::SLOTS],
+    place: u8,
+) -> HeadPumped
+    requires { ⌜ badState (h .params) ≡ false ⌝ }
+    ensures { λ r. ⌜ r
+        ≡ pumpHello h (windowOf (now (ring .entry)) (now (ticks .entry)) (now (present .entry))) place ⌝ }
 {
-    let said = say_next(s, Emit::Hello, place);
+    let said = say_next(h, ticks, present, Emit::Hello, place);
     if let Say::To { peer, body } = said {
-        return send(s, Emit::Hello, peer, body);
+        return send(h, ring, ticks, present, Emit::Hello, peer, body);
     }
-    if shown::is_playing(s) {
-        return pump_inputs(s, 0);
+    if shown::is_playing(h) {
+        return pump_inputs(h, ring, ticks, present, 0);
     }
-    pass_ends(s)
+    pass_ends(h)
 }
 
-fn pump_bye(s: Session, place: u8) -> Pumped
-    requires { ⌜ badState (s .params) ≡ false ⌝ }
-    ensures { λ r. ⌜ r ≡ pumpBye s place ⌝ }
+fn pump_bye(
+    h: Head,
+    ring: &[u8; window::RING],
+    ticks: &[u64; window::SLOTS],
+    present: &[peer::Bits; window::SLOTS],
+    place: u8,
+) -> HeadPumped
+    requires { ⌜ badState (h .params) ≡ false ⌝ }
+    ensures { λ r. ⌜ r
+        ≡ pumpBye h (windowOf (now (ring .entry)) (now (ticks .entry)) (now (present .entry))) place ⌝ }
 {
-    let said = say_next(s, Emit::Bye, place);
+    let said = say_next(h, ticks, present, Emit::Bye, place);
     if let Say::To { peer, body } = said {
-        return send(s, Emit::Bye, peer, body);
+        return send(h, ring, ticks, present, Emit::Bye, peer, body);
     }
-    pass_ends(s)
+    pass_ends(h)
 }
 
-fn pump_from(s: Session, emit: Emit) -> Pumped
-    requires { ⌜ badState (s .params) ≡ false ⌝ }
-    ensures { λ r. ⌜ r ≡ pumpFrom s emit ⌝ }
+fn pump_from(
+    h: Head,
+    ring: &[u8; window::RING],
+    ticks: &[u64; window::SLOTS],
+    present: &[peer::Bits; window::SLOTS],
+    kind: Emit,
+) -> HeadPumped
+    requires { ⌜ badState (h .params) ≡ false ⌝ }
+    ensures { λ r. ⌜ r
+        ≡ pumpFrom h (windowOf (now (ring .entry)) (now (ticks .entry)) (now (present .entry))) kind ⌝ }
 {
-    match emit {
-        Emit::Hello => pump_hello(s, s.place),
-        Emit::Inputs => pump_inputs(s, s.place),
-        Emit::Digest => pump_digest(s, s.place),
-        Emit::Bye => pump_bye(s, s.place),
-        Emit::Done => pass_ends(s),
+    match kind {
+        Emit::Hello => pump_hello(h, ring, ticks, present, h.pass.place),
+        Emit::Inputs => pump_inputs(h, ring, ticks, present, h.pass.place),
+        Emit::Digest => pump_digest(h, ring, ticks, present, h.pass.place),
+        Emit::Bye => pump_bye(h, ring, ticks, present, h.pass.place),
+        Emit::Done => pass_ends(h),
     }
 }
 
-// The session's next message. The answer is Nothing once in a pass, at its end.
-pub fn next_outbound(s: Session) -> Pumped
+// The session's next message, in place. The answer is Nothing once in a pass, at its end.
+pub fn next_outbound_in(
+    h: Head,
+    ring: &[u8; window::RING],
+    ticks: &[u64; window::SLOTS],
+    present: &[peer::Bits; window::SLOTS],
+) -> HeadPumped
+    ensures { λ r. ⌜ ((p : Fingerprints′.Fingerprints) →
+        pumped (sessionOf h (windowOf (now (ring .entry)) (now (ticks .entry)) (now (present .entry))) p) r
+        ≡ pump (sessionOf h (windowOf (now (ring .entry)) (now (ticks .entry)) (now (present .entry))) p)) ⌝ }
+{
+    if h.params.bad_state() {
+        return quiet(h, Outbound::BadState);
+    }
+    let pass = h.pass;
+    let kind = pass.kind;
+    pump_from(h, ring, ticks, present, kind)
+}
+
+// The same of a whole session, by value.
+pub fn next_outbound(mut s: Session) -> Pumped
     ensures { λ r. ⌜ r ≡ pump s ⌝ }
 {
-    if s.params.bad_state() {
-        return quiet(s, Outbound::BadState);
+    let window = s.window;
+    let ring = window.ring;
+    let ticks = window.ticks;
+    let present = window.present;
+    let done = next_outbound_in(s.head, &ring, &ticks, &present);
+    let head = done.head;
+    let answer = done.answer;
+    let run = done.run;
+    s.head = head;
+    Pumped {
+        session: s,
+        answer: answer,
+        run: run,
     }
-    let emit = s.emit;
-    pump_from(s, emit)
 }

@@ -1,19 +1,19 @@
 // A step's frames, as eight rows of sixteen bytes by value, and what a step hashes.
 ghost use mathlib.Core.Path.{_≡_};
-ghost use Prim.Native.Nat.{_+_, _≤_};
+ghost use mathlib.Core.List.{List};
+ghost use Prim.Native.Nat.{ℕ, _+_, _≤_};
 ghost use lib.ListN.{take, drop};
 ghost use Rattle.logic.specs.Test.{if_then_else_};
 ghost use Rattle.hash.specs.Fnv.{fnv};
 ghost use Rattle.params.specs.Params.{maxWidth};
-ghost use Rattle.window.specs.Window.{ringBytes};
+ghost use Rattle.window.specs.Window.{ringBytes, windowOf};
 ghost use Rattle.rows.specs.Rows.{laid, padded, rowsOf, stepDigest};
 use hash::StateHash;
 use logic::least;
 use logic::wide;
-use window::Window;
 
 // One for each seat.
-pub const ROWS: usize = 8;
+pub const ROWS: usize = peer::SEATS as usize;
 
 // The rows in a record, so that they can stand beside a step. The two functions below are the only ones that touch the
 // rows inside it.
@@ -59,15 +59,16 @@ fn row_at(ring: &[u8; window::RING], at: usize, width: u8) -> [u8; 16]
 }
 
 // The frames of a tick: for each seat of the roster its frame and then zeros, and zeros for the others.
-pub fn rows_at(w: Window, tick: u64, count: u8, width: u8) -> [[u8; 16]; ROWS]
-    ensures { λ r. ⌜ r ≡ rowsOf w tick count width ⌝ }
+pub fn rows_at(ring: &[u8; window::RING], tick: u64, count: u8, width: u8) -> [[u8; 16]; ROWS]
+    ensures { λ r. ⌜ ((ticks present : List ℕ) →
+        r ≡ rowsOf (windowOf (now (ring .entry)) ticks present) tick count width) ⌝ }
 {
     let n = wide(count);
     let cell = peer::slot(tick);
     let mut rows = [[0u8; 16]; ROWS];
     let mut k: usize = 0;
     while k < ROWS {
-        rows[k] = row_at(&w.ring, (k * 64 + cell) * 16, kept_if(k < n, width));
+        rows[k] = row_at(ring, (k * 64 + cell) * 16, kept_if(k < n, width));
         k += 1;
     }
     rows

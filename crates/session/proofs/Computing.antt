@@ -13,10 +13,11 @@ use Rattle.fingerprint.specs.Cells.{ownCell, remoteCell, noPrints, cellAt, stor
 use Rattle.fingerprint.specs.Cells.{remote, withOwn, withRemote, ofTick, ownFor, remoteFor}
 use Rattle.fingerprint.specs.Judging.{agrees, allAgree, partedBy, parted}
 use Rattle.stats.specs.Stats.{noStats}
-use Rattle.session.specs.Session.{fresh, isPlaying, everySeatHeld, ended, started}
-use Rattle.session.specs.Host.{opened, press, submitOpen, submitBy, submit, leaveBy, leave}
-use Rattle.session.specs.Step.{takeStep, playOn, advanceBy, advanceFrom, advance}
-use Rattle.session.specs.Step.{judge, keepDigest, commitFrom, commit}
+use Rattle.session.specs.Session.{freshHead, fresh, isPlaying, everySeat, ended, starts, started}
+use Rattle.session.specs.Host.{opened, pressed, submitOpen, submitBy, submitHead, submit}
+use Rattle.session.specs.Host.{leaveBy, leaveHead, leave}
+use Rattle.session.specs.Step.{stepped, takeStep, playOn, advanceBy, advanceFrom, advanceHead, advance}
+use Rattle.session.specs.Step.{played, judge, keepDigest, commitFrom, commit}
 
 unfoldable pub hosting : Unit {0}
 unfolding if_then_else_ outside raised tabulate fnv leBytes
@@ -25,6 +26,7 @@ unfolding if_then_else_ outside raised tabulate fnv leBytes
     freshWindow heldBy isHeld frameOf written writeFrame padded rowsOf heads stepDigest
     ownCell remoteCell noPrints cellAt storedAt own remote withOwn withRemote ofTick ownFor remoteFor
     agrees allAgree partedBy parted noStats
-    fresh isPlaying everySeatHeld ended started opened press submitOpen submitBy submit leaveBy leave
-    takeStep playOn advanceBy advanceFrom advance judge keepDigest commitFrom commit
+    freshHead fresh isPlaying everySeat ended starts started opened pressed submitOpen submitBy submitHead submit
+    leaveBy leaveHead leave stepped takeStep playOn advanceBy advanceFrom advanceHead advance
+    played judge keepDigest commitFrom commit
 hosting = tt

@@ -1,11 +1,12 @@
 -- A session that goes on past tick 0, computed from the definitions: each step is of the pending tick, carries the
 -- bytes that were pressed for it, and goes on from the digest of the one before.
 -- Assumes nothing.
-use Prim.Native.Nat.{ℕ}
+use Prim.Native.Nat.{ℕ, _-_}
 use mathlib.Core.Path.{_≡_, refl}
 use mathlib.Core.Bool.{Bool, true, false}
 use mathlib.Core.List.{List, [], _∷_}
 use lib.ListN.{replicate}
+use Rattle.peer.specs.Seats.{seats}
 use Rattle.params.specs.declared.SessionParams.{SessionParams}
 use Rattle.window.specs.Window.{writeFrame}
 use Rattle.session.specs.declared.WorldDigest.{WorldDigest}
@@ -14,7 +15,7 @@ use Rattle.session.specs.declared.Session.{Session}
 use Rattle.session.specs.declared.Advance.{Advance}
 use Rattle.session.specs.declared.Advance.the-variants as Advance′
 use Rattle.session.specs.declared.Advanced.{Advanced}
-use Rattle.session.specs.Session.{withHellos, withFrames}
+use Rattle.session.specs.Session.{sessionOf, withHead, withMarks}
 use Rattle.session.specs.Host.{opened, submit}
 use Rattle.session.specs.Step.{advance, commit}
 use Rattle.session.proofs.Computing.{hosting}
@@ -25,13 +26,15 @@ pair = record { count = 2; local = 0; width = 1; delay = 0; period = 2; seed = 0
 
 -- seat 1 has said Hello
 greeted : Session
-greeted = withHellos (opened pair .session) 3
+greeted =
+    let s = opened pair .session in
+    withHead s (withMarks (s .head) (record { hellos = 3; playing = 0; started = false }))
 
 -- both press for the tick; seat 1's byte is stored as an accepted Inputs stores it
 both : Session → (tick mine theirs : ℕ) → Session
 both s tick mine theirs =
     let t = submit s (mine ∷ []) .session in
-    withFrames t (writeFrame (t .window) 1 tick (theirs ∷ [])) (t .stats)
+    sessionOf (t .head) (writeFrame (t .window) 1 tick (theirs ∷ [])) (t .prints)
 
 -- ticks 0, 1 and 2, the earlier ones committed
 first : Advanced
@@ -50,13 +53,13 @@ record Shown : Type 0 where
   digest : ℕ
 
 shown : Advanced → Shown
-shown a = record { answer = a .answer; rows = a .frames .rows; digest = a .session .digest }
+shown a = record { answer = a .answer; rows = a .frames .rows; digest = a .session .head .play .digest }
 
 -- a step of the tick with the two seats' bytes
 stepped : ℕ → Bool → (mine theirs digest : ℕ) → Shown
 stepped tick due mine theirs digest = record {
   answer = Advance′.Step (record { tick = tick; due = due; count = 2; width = 1 });
-  rows = (mine ∷ replicate 15 0) ∷ (theirs ∷ replicate 15 0) ∷ replicate 6 (replicate 16 0);
+  rows = (mine ∷ replicate 15 0) ∷ (theirs ∷ replicate 15 0) ∷ replicate (seats - 2) (replicate 16 0);
   digest = digest;
 }
 

@@ -11,9 +11,10 @@ use Rattle.stats.specs.Stats.{stalledOf}
 use Rattle.session.specs.declared.Outcome.{Outcome}
 use Rattle.session.specs.declared.Outcome.the-variants.{Desynced}
 use Rattle.session.specs.declared.Standing.{Standing}
-use Rattle.session.specs.declared.Standing.the-variants.{Open, Over}
+use Rattle.session.specs.declared.Standing.the-variants.{Over}
 use Rattle.session.specs.declared.WorldDigest.{WorldDigest}
 use Rattle.session.specs.declared.WorldDigest.the-variants.{Absent, Present}
+use Rattle.session.specs.declared.Head.{Head}
 use Rattle.session.specs.declared.Session.{Session}
 use Rattle.session.specs.declared.Submitted.{Submitted}
 use Rattle.session.specs.declared.Committed.{Committed}
@@ -21,70 +22,75 @@ use Rattle.session.specs.declared.Advanced.{Advanced}
 use Rattle.session.specs.declared.Leave.the-variants as Leave′
 use Rattle.session.specs.Numbers.{submitNo, commitNo}
 use Rattle.session.specs.Session.{over, ended, started}
-use Rattle.session.specs.Host.{submit, press, leave, leaveBy}
-use Rattle.session.specs.Step.{takeStep, stall, advance, judge, keepDigest, commit}
+use Rattle.session.specs.Host.{pressed, submit, leaving, leaveBy, leaveHead, leave}
+use Rattle.session.specs.Step.{stepped, takeStep, stall, advance, played, judge, keepDigest, commit}
 use Rattle.session.proofs.Cases.{submit-cases, commit-cases, isIdle, advance-cases}
 
--- ---- what stays of a session: an outcome that it has, and the counters
+-- ---- what stays of a head: an outcome that it has, and the counters
 
-pub record Stays (s t : Session) : Type 0 where
-  pub outcome : (o : Outcome) → s .outcome ≡ Over o → t .outcome ≡ Over o
-  pub stats : t .stats ≡ s .stats
+pub record Stays (h k : Head) : Type 0 where
+  pub outcome : (o : Outcome) → h .outcome ≡ Over o → k .outcome ≡ Over o
+  pub stats : k .stats ≡ h .stats
 
-same : (s : Session) → Stays s s
-same s = record { outcome = λ o e. e; stats = refl }
+same : (h : Head) → Stays h h
+same h = record { outcome = λ o e. e; stats = refl }
 
 -- one change after another
-after : {s t u : Session} → Stays s t → Stays t u → Stays s u
+after : {h k l : Head} → Stays h k → Stays k l → Stays h l
 after f g = record { outcome = λ o e. g .outcome o (f .outcome o e); stats = g .stats ∙ f .stats }
 
 over-stays : (was : Standing) (new o : Outcome) → was ≡ Over o → over was new ≡ Over o
 over-stays was new o e = rw e
 
-pub ended-stays : (s : Session) (o : Outcome) → Stays s (ended s o)
+pub ended-stays : (h : Head) (o : Outcome) → Stays h (ended h o)
 unfolding ended
-ended-stays s o = record { outcome = λ p e. over-stays (s .outcome) o p e; stats = refl }
+ended-stays h o = record { outcome = λ p e. over-stays (h .outcome) o p e; stats = refl }
 
-pub started-stays : (s : Session) → Stays s (started s)
+pub started-stays : (h : Head) → Stays h (started h)
 unfolding started
-started-stays s = byTest (Stays s) (λ _. record { outcome = λ o e. e; stats = refl }) (λ _. same s)
+started-stays h = byTest (Stays h) (λ _. record { outcome = λ o e. e; stats = refl }) (λ _. same h)
 
 -- ---- submit
 
 pub record OfSubmit (s : Session) (r : Submitted) : Type 0 where
   -- 20, 41, 42 and an ended submit change nothing
   pub refused : submitNo (r .answer) ≢ 0 → r .session ≡ s
-  pub stays : Stays s (r .session)
+  pub stays : Stays (s .head) (r .session .head)
 
-press-stays : (s : Session) (input : List ℕ) → Stays s (press s input)
-unfolding press
-press-stays s input = record { outcome = λ o e. e; stats = refl }
+pressed-stays : (h : Head) → Stays h (pressed h)
+unfolding pressed
+pressed-stays h = record { outcome = λ o e. e; stats = refl }
 
 pub of-submit : (s : Session) (input : List ℕ) → OfSubmit s (submit s input)
 of-submit s input =
-    submit-cases (OfSubmit s) s input (λ a n. record { refused = λ _. refl; stays = same s })
-    (λ _.
-    record { refused = λ n. absurd (n refl); stays = after (press-stays s input) (started-stays (press s input)) })
+    submit-cases (OfSubmit s) s input (λ a n. record { refused = λ _. refl; stays = same (s .head) })
+    (λ _ _. record {
+      refused = λ n. absurd (n refl);
+      stays = after (pressed-stays (s .head)) (started-stays (pressed (s .head)));
+    })
 
 -- ---- commit
 
 pub record OfCommit (s : Session) (r : Committed) : Type 0 where
   -- 20, 51 and 52 change nothing
   pub refused : commitNo (r .answer) ≢ 0 → r .session ≡ s
-  pub stays : Stays s (r .session)
+  pub stays : Stays (s .head) (r .session .head)
 
-judge-stays : (s : Session) (tick : ℕ) → Stays s (judge s tick)
+judge-stays : (s : Session) (tick : ℕ) → Stays (s .head) (judge s tick .head)
 unfolding judge
-judge-stays s tick = byTest (Stays s) (λ _. ended-stays s (Desynced tick)) (λ _. same s)
+judge-stays s tick =
+    byTest (λ (t : Session). Stays (s .head) (t .head))
+    (λ _. ended-stays (s .head) (Desynced tick)) (λ _. same (s .head))
 
-keep-digest-stays : (s : Session) (tick : ℕ) (given : WorldDigest) → Stays s (keepDigest s tick given)
+keep-digest-stays : (s : Session) (tick : ℕ) (given : WorldDigest) → Stays (s .head) (keepDigest s tick given .head)
 unfolding keepDigest
-keep-digest-stays s tick Absent = same s
+keep-digest-stays s tick Absent = same (s .head)
 keep-digest-stays s tick (Present state) = after (record { outcome = λ o e. e; stats = refl }) (judge-stays _ tick)
 
 pub of-commit : (s : Session) (tick : ℕ) (given : WorldDigest) → OfCommit s (commit s tick given)
+unfolding played
 of-commit s tick given =
-    commit-cases (OfCommit s) s tick given (λ a n. record { refused = λ _. refl; stays = same s })
+    commit-cases (OfCommit s) s tick given (λ a n. record { refused = λ _. refl; stays = same (s .head) })
     (λ due _ _. record {
       refused = λ n. absurd (n refl);
       stays = after (record { outcome = λ o e. e; stats = refl }) (keep-digest-stays _ tick given);
@@ -92,30 +98,32 @@ of-commit s tick given =
 
 -- ---- leave: after any outcome it gives the standing one and changes nothing, and so does 20
 
-pub leave-again : (s : Session) (o : Outcome) → badState (s .params) ≡ false → s .outcome ≡ Over o
+pub leave-again : (s : Session) (o : Outcome) → badState (s .head .params) ≡ false → s .head .outcome ≡ Over o
     → leave s ≡ record { session = s; answer = Leave′.Ended o }
-unfolding leave leaveBy
-leave-again s o good e = if-false _ _ good ∙ ap (leaveBy s) e
+unfolding leave leaveHead leaveBy
+leave-again s o good e =
+    let given : leaveHead (s .head) ≡ leaving (s .head) (Leave′.Ended o) =
+    if-false _ _ good ∙ ap (leaveBy (s .head)) e in rw given
 
-pub leave-refused : (s : Session) → badState (s .params) ≡ true
+pub leave-refused : (s : Session) → badState (s .head .params) ≡ true
     → leave s ≡ record { session = s; answer = Leave′.BadState }
-unfolding leave
-leave-refused s bad = if-true _ _ bad
+unfolding leave leaveHead
+leave-refused s bad = rw (if-true _ _ bad)
 
 -- ---- advance, whose stall counts from 0 again at another tick
 
 pub record OfAdvance (s : Session) (r : Advanced) : Type 0 where
   -- an answer that is neither a step nor a stall changes nothing
   pub idle : isIdle (r .answer) ≡ true → r .session ≡ s
-  pub outcome : r .session .outcome ≡ s .outcome
-  pub refused : r .session .stats .«datagrams_refused» ≡ s .stats .«datagrams_refused»
-  pub repeated : r .session .stats .«frames_repeated» ≡ s .stats .«frames_repeated»
-  pub contradicted : r .session .stats .«frames_contradicted» ≡ s .stats .«frames_contradicted»
-  pub beyond : r .session .stats .«frames_out_of_window» ≡ s .stats .«frames_out_of_window»
-  pub digests : r .session .stats .«digests_contradicted» ≡ s .stats .«digests_contradicted»
+  pub outcome : r .session .head .outcome ≡ s .head .outcome
+  pub refused : r .session .head .stats .«datagrams_refused» ≡ s .head .stats .«datagrams_refused»
+  pub repeated : r .session .head .stats .«frames_repeated» ≡ s .head .stats .«frames_repeated»
+  pub contradicted : r .session .head .stats .«frames_contradicted» ≡ s .head .stats .«frames_contradicted»
+  pub beyond : r .session .head .stats .«frames_out_of_window» ≡ s .head .stats .«frames_out_of_window»
+  pub digests : r .session .head .stats .«digests_contradicted» ≡ s .head .stats .«digests_contradicted»
 
 pub of-advance : (s : Session) → OfAdvance s (advance s)
-unfolding takeStep stall stalledOf
+unfolding takeStep stepped stall stalledOf
 of-advance s =
     advance-cases (OfAdvance s) s
     (λ a e. record {

@@ -10,58 +10,94 @@ use Rattle.logic.specs.Saturating.{raised}
 use Rattle.peer.specs.Cells.{window}
 use Rattle.params.specs.Params.{validity, badState}
 use Rattle.params.specs.declared.SessionParams.{SessionParams}
-use Rattle.window.specs.Window.{writeFrame}
+use Rattle.params.specs.declared.Validity.{Validity}
+use Rattle.window.specs.Window.{freshWindow, writeFrame}
+use Rattle.window.specs.declared.Window.{Window}
+use Rattle.fingerprint.specs.Cells.{noPrints}
+use Rattle.fingerprint.specs.declared.Fingerprints.{Fingerprints}
 use Rattle.session.specs.declared.Outcome.the-variants.{LeftLocally}
 use Rattle.session.specs.declared.Standing.{Standing}
 use Rattle.session.specs.declared.Standing.the-variants.{Open, Over}
 use Rattle.session.specs.declared.Emit.the-variants.{Bye}
+use Rattle.session.specs.declared.Head.{Head}
 use Rattle.session.specs.declared.Session.{Session}
 use Rattle.session.specs.declared.Opened.{Opened}
 use Rattle.session.specs.declared.Submit.{Submit}
 use Rattle.session.specs.declared.Submit.the-variants as Submit′
 use Rattle.session.specs.declared.Submitted.{Submitted}
+use Rattle.session.specs.declared.HeadSubmitted.{HeadSubmitted}
+use Rattle.session.specs.declared.Leave.{Leave}
 use Rattle.session.specs.declared.Leave.the-variants as Leave′
 use Rattle.session.specs.declared.Left.{Left}
-use Rattle.session.specs.Session.{fresh, withPress, withOutcome, withEmit, started, lastCommitted}
+use Rattle.session.specs.declared.HeadLeft.{HeadLeft}
+use Rattle.session.specs.Session.{sessionOf, withHead, freshHead, withPlay, withOutcome, withPass, started}
+use Rattle.session.specs.Session.{lastCommitted}
+use Rattle.session.specs.Numbers.{submitNo}
+
+abbrev pub openedOf : Head → Window → Fingerprints → Validity → Opened
+openedOf h w p answer = record { session = sessionOf h w p; answer = answer }
 
 -- a refused open hands back the fresh record over the given parameters, on which every call answers 20
 unfoldable pub opened : SessionParams → Opened
-opened p = record { session = fresh p; answer = validity p }
+opened p = openedOf (freshHead p) freshWindow noPrints (validity p)
 
--- ---- submit
+-- ---- submit: the head says whether the press is taken, and the window takes it
+
+abbrev pub answered : Head → Submit → HeadSubmitted
+answered h answer = record { head = h; answer = answer }
+
+-- the next local tick rises by one
+unfoldable pub pressed : Head → Head
+pressed h = withPlay h (record {
+  pending = h .play .pending;
+  «next_local» = raised (h .play .«next_local»);
+  digest = h .play .digest;
+  step = h .play .step;
+  stalled = h .play .stalled;
+})
+
+-- 41 length; 42 next local tick minus pending at least 64
+unfoldable pub submitOpen : Head → ℕ → HeadSubmitted
+submitOpen h n =
+    if not (eqb n (h .params .width)) then answered h (Submit′.WrongWidth n (h .params .width))
+    else if leb window (h .play .«next_local» - h .play .pending)
+    then answered h (Submit′.WindowFull (h .play .«next_local») (h .play .pending))
+    else answered (started (pressed h)) (Submit′.Accepted (h .play .«next_local»))
+
+unfoldable pub submitBy : Head → ℕ → Standing → HeadSubmitted
+submitBy h n (Over o) = answered h (Submit′.Ended o)
+submitBy h n Open = submitOpen h n
+
+-- a press of n bytes
+unfoldable pub submitHead : Head → ℕ → HeadSubmitted
+submitHead h n = if badState (h .params) then answered h Submit′.BadState else submitBy h n (h .outcome)
 
 abbrev pub submitted : Session → Submit → Submitted
 submitted s answer = record { session = s; answer = answer }
 
--- writes at the next local tick, over any bytes held there, and raises it by one
-unfoldable pub press : Session → List ℕ → Session
-press s input = withPress s (writeFrame (s .window) (s .params .local) (s .next) input) (raised (s .next))
-
--- 41 length; 42 next local tick minus pending at least 64
-unfoldable pub submitOpen : Session → List ℕ → Submitted
-submitOpen s input =
-    if not (eqb (length input) (s .params .width))
-    then submitted s (Submit′.WrongWidth (length input) (s .params .width))
-    else if leb window (s .next - s .pending) then submitted s (Submit′.WindowFull (s .next) (s .pending))
-    else submitted (started (press s input)) (Submit′.Accepted (s .next))
-
-unfoldable pub submitBy : Session → List ℕ → Standing → Submitted
-submitBy s input (Over o) = submitted s (Submit′.Ended o)
-submitBy s input Open = submitOpen s input
-
+-- a press that is taken is written at the next local tick, over any bytes held there
 unfoldable pub submit : Session → List ℕ → Submitted
-submit s input = if badState (s .params) then submitted s Submit′.BadState else submitBy s input (s .outcome)
+submit s input =
+    let r = submitHead (s .head) (length input) in
+    let written = writeFrame (s .window) (s .head .params .local) (s .head .play .«next_local») input in
+    submitted
+    (sessionOf (r .head) (if eqb (submitNo (r .answer)) 0 then written else s .window) (s .prints)) (r .answer)
 
 -- ---- leave
 
+abbrev pub leaving : Head → Leave → HeadLeft
+leaving h answer = record { head = h; answer = answer }
+
 -- leaving reports pending minus one, or 0 at pending 0, and restarts the pump at Bye; a leave after any outcome gives
 -- the standing one and changes nothing
-unfoldable pub leaveBy : Session → Standing → Left
-leaveBy s (Over o) = record { session = s; answer = Leave′.Ended o }
-leaveBy s Open = record {
-  session = withEmit (withOutcome s (Over (LeftLocally (lastCommitted s)))) Bye 0;
-  answer = Leave′.Ended (LeftLocally (lastCommitted s));
-}
+unfoldable pub leaveBy : Head → Standing → HeadLeft
+leaveBy h (Over o) = leaving h (Leave′.Ended o)
+leaveBy h Open =
+    leaving (withPass (withOutcome h (Over (LeftLocally (lastCommitted h)))) (record { kind = Bye; place = 0 }))
+    (Leave′.Ended (LeftLocally (lastCommitted h)))
+
+unfoldable pub leaveHead : Head → HeadLeft
+leaveHead h = if badState (h .params) then leaving h Leave′.BadState else leaveBy h (h .outcome)
 
 unfoldable pub leave : Session → Left
-leave s = if badState (s .params) then record { session = s; answer = Leave′.BadState } else leaveBy s (s .outcome)
+leave s = record { session = withHead s (leaveHead (s .head) .head); answer = leaveHead (s .head) .answer }

@@ -1,7 +1,7 @@
--- The session record as its parts change, and what is said of it everywhere. Document 01: a session with an outcome is over, and the first
--- outcome stays; it plays once it has started and is not over.
--- Assumes nothing.
-use Prim.Native.Nat.{ℕ, _+_, _-_}
+-- A session is its head, its window and its prints: small fields, presses, fingerprints. Here are the head as its parts
+-- change, and what is said of a session everywhere. Document 01: a session with an outcome is over, and the first
+-- outcome stays; it plays once it has started and is not over. Assumes nothing.
+use Prim.Native.Nat.{ℕ, _-_}
 use mathlib.Core.Bool.{Bool, true, false, not, _&&_}
 use lib.Dec.{ltb}
 use Rattle.logic.specs.Test.{if_then_else_}
@@ -10,108 +10,136 @@ use Rattle.hash.specs.Fnv.{start}
 use Rattle.peer.specs.Seats.{seats, adding, isSubset}
 use Rattle.params.specs.Params.{rosterOf}
 use Rattle.params.specs.declared.SessionParams.{SessionParams}
-use Rattle.window.specs.Window.{freshWindow, heldBy}
+use Rattle.window.specs.Window.{freshWindow}
 use Rattle.window.specs.declared.Window.{Window}
-use Rattle.fingerprint.specs.Cells.{noPrints, withOwn, withRemote}
-use Rattle.fingerprint.specs.declared.Fingerprint.{Fingerprint}
-use Rattle.fingerprint.specs.declared.Cell.the-variants.{Empty, Holds}
+use Rattle.fingerprint.specs.Cells.{noPrints}
+use Rattle.fingerprint.specs.declared.Fingerprints.{Fingerprints}
+use Rattle.fingerprint.specs.declared.Cell.{Cell}
+use Rattle.fingerprint.specs.declared.Cell.the-variants.{Empty}
 use Rattle.stats.specs.Stats.{noStats}
 use Rattle.stats.specs.declared.SessionStats.{SessionStats}
 use Rattle.session.specs.declared.Outcome.{Outcome}
 use Rattle.session.specs.declared.Standing.{Standing}
 use Rattle.session.specs.declared.Standing.the-variants.{Open, Over}
-use Rattle.session.specs.declared.Outstanding.{Outstanding}
-use Rattle.session.specs.declared.Outstanding.the-variants.{Free, Out}
-use Rattle.session.specs.declared.Emit.{Emit}
+use Rattle.session.specs.declared.Outstanding.the-variants.{Free}
 use Rattle.session.specs.declared.Emit.the-variants.{Hello}
+use Rattle.session.specs.declared.Play.{Play}
+use Rattle.session.specs.declared.Marks.{Marks}
+use Rattle.session.specs.declared.Pass.{Pass}
+use Rattle.session.specs.declared.Head.{Head}
 use Rattle.session.specs.declared.Session.{Session}
+
+-- ---- a session of its parts
+
+abbrev pub sessionOf : Head → Window → Fingerprints → Session
+sessionOf h w p = record { head = h; window = w; prints = p }
+
+abbrev pub withHead : Session → Head → Session
+withHead s h = sessionOf h (s .window) (s .prints)
 
 -- ---- at the start
 
--- the ring empty, no Hello in but its own, nothing committed, and the pump about to say Hello
-unfoldable pub fresh : SessionParams → Session
-fresh p = record {
+-- no Hello in but its own, nothing committed, and the pump about to say Hello
+unfoldable pub freshHead : SessionParams → Head
+freshHead p = record {
   params = p;
-  window = freshWindow;
-  pending = 0;
-  next = 0;
-  digest = start;
-  prints = noPrints;
+  play = record { pending = 0; «next_local» = 0; digest = start; step = Free; stalled = most };
+  marks = record { hellos = adding seats 0 (p .local); playing = 0; started = false };
+  pass = record { kind = Hello; place = 0 };
   owed = Empty;
-  hellos = adding seats 0 (p .local);
-  seen = 0;
-  playing = false;
-  step = Free;
   outcome = Open;
   stats = noStats;
-  stalled = most;
-  emit = Hello;
-  place = 0;
 }
 
--- ---- a session with some parts changed: the fields are written out here and nowhere else
+-- and the ring empty
+unfoldable pub fresh : SessionParams → Session
+fresh p = sessionOf (freshHead p) freshWindow noPrints
 
--- a press in the window, and the next local tick
-abbrev pub withPress : Session → Window → ℕ → Session
-withPress s w n = record { params = s .params; window = w; pending = s .pending; next = n; digest = s .digest; prints = s .prints; owed = s .owed; hellos = s .hellos; seen = s .seen; playing = s .playing; step = s .step; outcome = s .outcome; stats = s .stats; stalled = s .stalled; emit = s .emit; place = s .place }
+-- ---- a head with one of its parts changed: the parts are written out here and nowhere else
 
--- a message's frames in the window, and the counters
-abbrev pub withFrames : Session → Window → SessionStats → Session
-withFrames s w c = record { params = s .params; window = w; pending = s .pending; next = s .next; digest = s .digest; prints = s .prints; owed = s .owed; hellos = s .hellos; seen = s .seen; playing = s .playing; step = s .step; outcome = s .outcome; stats = c; stalled = s .stalled; emit = s .emit; place = s .place }
+abbrev pub withPlay : Head → Play → Head
+withPlay h x = record {
+  params = h .params;
+  play = x;
+  marks = h .marks;
+  pass = h .pass;
+  owed = h .owed;
+  outcome = h .outcome;
+  stats = h .stats;
+}
 
--- the marks
-abbrev pub withPlaying : Session → Session
-withPlaying s = record { params = s .params; window = s .window; pending = s .pending; next = s .next; digest = s .digest; prints = s .prints; owed = s .owed; hellos = s .hellos; seen = s .seen; playing = true; step = s .step; outcome = s .outcome; stats = s .stats; stalled = s .stalled; emit = s .emit; place = s .place }
+abbrev pub withMarks : Head → Marks → Head
+withMarks h x = record {
+  params = h .params;
+  play = h .play;
+  marks = x;
+  pass = h .pass;
+  owed = h .owed;
+  outcome = h .outcome;
+  stats = h .stats;
+}
 
-abbrev pub withHellos : Session → ℕ → Session
-withHellos s x = record { params = s .params; window = s .window; pending = s .pending; next = s .next; digest = s .digest; prints = s .prints; owed = s .owed; hellos = x; seen = s .seen; playing = s .playing; step = s .step; outcome = s .outcome; stats = s .stats; stalled = s .stalled; emit = s .emit; place = s .place }
+abbrev pub withPass : Head → Pass → Head
+withPass h x = record {
+  params = h .params;
+  play = h .play;
+  marks = h .marks;
+  pass = x;
+  owed = h .owed;
+  outcome = h .outcome;
+  stats = h .stats;
+}
 
-abbrev pub withSeen : Session → ℕ → Session
-withSeen s x = record { params = s .params; window = s .window; pending = s .pending; next = s .next; digest = s .digest; prints = s .prints; owed = s .owed; hellos = s .hellos; seen = x; playing = s .playing; step = s .step; outcome = s .outcome; stats = s .stats; stalled = s .stalled; emit = s .emit; place = s .place }
+abbrev pub withOwed : Head → Cell → Head
+withOwed h x = record {
+  params = h .params;
+  play = h .play;
+  marks = h .marks;
+  pass = h .pass;
+  owed = x;
+  outcome = h .outcome;
+  stats = h .stats;
+}
 
--- the counters, and those of a stall with its tick
-abbrev pub withStats : Session → SessionStats → Session
-withStats s c = record { params = s .params; window = s .window; pending = s .pending; next = s .next; digest = s .digest; prints = s .prints; owed = s .owed; hellos = s .hellos; seen = s .seen; playing = s .playing; step = s .step; outcome = s .outcome; stats = c; stalled = s .stalled; emit = s .emit; place = s .place }
+abbrev pub withOutcome : Head → Standing → Head
+withOutcome h x = record {
+  params = h .params;
+  play = h .play;
+  marks = h .marks;
+  pass = h .pass;
+  owed = h .owed;
+  outcome = x;
+  stats = h .stats;
+}
 
-abbrev pub withStall : Session → SessionStats → ℕ → Session
-withStall s c t = record { params = s .params; window = s .window; pending = s .pending; next = s .next; digest = s .digest; prints = s .prints; owed = s .owed; hellos = s .hellos; seen = s .seen; playing = s .playing; step = s .step; outcome = s .outcome; stats = c; stalled = t; emit = s .emit; place = s .place }
+abbrev pub withStats : Head → SessionStats → Head
+withStats h x = record {
+  params = h .params;
+  play = h .play;
+  marks = h .marks;
+  pass = h .pass;
+  owed = h .owed;
+  outcome = h .outcome;
+  stats = x;
+}
 
--- an outcome
-abbrev pub withOutcome : Session → Standing → Session
-withOutcome s o = record { params = s .params; window = s .window; pending = s .pending; next = s .next; digest = s .digest; prints = s .prints; owed = s .owed; hellos = s .hellos; seen = s .seen; playing = s .playing; step = s .step; outcome = o; stats = s .stats; stalled = s .stalled; emit = s .emit; place = s .place }
-
--- a step handed out: the input digest and the outstanding step; the last stalled tick starts anew
-abbrev pub withStep : Session → ℕ → Outstanding → Session
-withStep s d o = record { params = s .params; window = s .window; pending = s .pending; next = s .next; digest = d; prints = s .prints; owed = s .owed; hellos = s .hellos; seen = s .seen; playing = s .playing; step = o; outcome = s .outcome; stats = s .stats; stalled = most; emit = s .emit; place = s .place }
-
--- a step committed
-abbrev pub withCommit : Session → ℕ → Session
-withCommit s p = record { params = s .params; window = s .window; pending = p; next = s .next; digest = s .digest; prints = s .prints; owed = s .owed; hellos = s .hellos; seen = s .seen; playing = s .playing; step = Free; outcome = s .outcome; stats = s .stats; stalled = s .stalled; emit = s .emit; place = s .place }
-
--- one's own fingerprint kept and owed, and a remote's kept
-abbrev pub withOwnPrint : Session → Fingerprint → Session
-withOwnPrint s f = record { params = s .params; window = s .window; pending = s .pending; next = s .next; digest = s .digest; prints = withOwn (s .prints) f; owed = Holds f; hellos = s .hellos; seen = s .seen; playing = s .playing; step = s .step; outcome = s .outcome; stats = s .stats; stalled = s .stalled; emit = s .emit; place = s .place }
-
-abbrev pub withRemotePrint : Session → ℕ → Fingerprint → Session
-withRemotePrint s k f = record { params = s .params; window = s .window; pending = s .pending; next = s .next; digest = s .digest; prints = withRemote (s .prints) k f; owed = s .owed; hellos = s .hellos; seen = s .seen; playing = s .playing; step = s .step; outcome = s .outcome; stats = s .stats; stalled = s .stalled; emit = s .emit; place = s .place }
-
--- the pump's kind and place
-abbrev pub withEmit : Session → Emit → ℕ → Session
-withEmit s e p = record { params = s .params; window = s .window; pending = s .pending; next = s .next; digest = s .digest; prints = s .prints; owed = s .owed; hellos = s .hellos; seen = s .seen; playing = s .playing; step = s .step; outcome = s .outcome; stats = s .stats; stalled = s .stalled; emit = e; place = p }
-
--- ---- what is asked of a session
+-- ---- what is asked of a head
 
 abbrev pub isOver : Standing → Bool
 isOver Open = false
 isOver (Over o) = true
 
 -- it has started, and is not over
-unfoldable pub isPlaying : Session → Bool
-isPlaying s = s .playing && not (isOver (s .outcome))
+unfoldable pub isPlaying : Head → Bool
+isPlaying h = h .marks .started && not (isOver (h .outcome))
 
--- every seat of the roster has a frame for the pending tick
-unfoldable pub everySeatHeld : Session → Bool
-everySeatHeld s = isSubset seats (rosterOf (s .params)) (heldBy (s .window) (s .pending))
+-- every seat of the roster is among these
+unfoldable pub everySeat : Head → ℕ → Bool
+everySeat h set = isSubset seats (rosterOf (h .params)) set
+
+-- the last tick committed: pending minus one, or 0 at pending 0
+abbrev pub lastCommitted : Head → ℕ
+lastCommitted h = h .play .pending - 1
 
 -- ---- what several calls do
 
@@ -120,16 +148,15 @@ abbrev pub over : Standing → Outcome → Standing
 over Open o = Over o
 over (Over p) o = Over p
 
-unfoldable pub ended : Session → Outcome → Session
-ended s o = withOutcome s (over (s .outcome) o)
+unfoldable pub ended : Head → Outcome → Head
+ended h o = withOutcome h (over (h .outcome) o)
 
 -- a session starts playing once every seat's Hello is in and the next local tick exceeds the delay
-unfoldable pub started : Session → Session
-started s =
-    if isSubset seats (rosterOf (s .params)) (s .hellos) && ltb (s .params .delay) (s .next)
-    then withPlaying s
-    else s
+unfoldable pub starts : SessionParams → (hellos next : ℕ) → Bool
+starts p hellos next = isSubset seats (rosterOf p) hellos && ltb (p .delay) next
 
--- the last tick committed: pending minus one, or 0 at pending 0
-abbrev pub lastCommitted : Session → ℕ
-lastCommitted s = s .pending - 1
+unfoldable pub started : Head → Head
+started h =
+    if starts (h .params) (h .marks .hellos) (h .play .«next_local»)
+    then withMarks h (record { hellos = h .marks .hellos; playing = h .marks .playing; started = true })
+    else h

@@ -1,9 +1,11 @@
-// What a session shows, and whether it wants a press. Nothing here changes a session, and no record is refused.
+// What a session shows, and whether it wants a press. All of it stands in the head, so a question takes the head alone,
+// and whoever holds a whole session asks it of `s.head`: there is no second form by value. Nothing here changes a
+// session, and no record is refused.
 ghost use mathlib.Core.Path.{_≡_};
 ghost use Rattle.session.specs.Session.{isOver, isPlaying};
 ghost use Rattle.shown.specs.Wants.{wantsLocal};
 use params::SessionParams;
-use session::Session;
+use session::Head;
 use session::Standing;
 use stats::SessionStats;
 
@@ -17,69 +19,71 @@ fn is_over(standing: Standing) -> bool
     }
 }
 
-pub fn params(s: Session) -> SessionParams
-    ensures { λ r. ⌜ r ≡ s .params ⌝ }
+pub fn params(h: Head) -> SessionParams
+    ensures { λ r. ⌜ r ≡ h .params ⌝ }
 {
-    s.params
+    h.params
 }
 
-pub fn stats(s: Session) -> SessionStats
-    ensures { λ r. ⌜ r ≡ s .stats ⌝ }
+pub fn stats(h: Head) -> SessionStats
+    ensures { λ r. ⌜ r ≡ h .stats ⌝ }
 {
-    s.stats
+    h.stats
 }
 
 // The tick that is played next.
-pub fn pending_tick(s: Session) -> u64
-    ensures { λ r. ⌜ r ≡ s .pending ⌝ }
+pub fn pending_tick(h: Head) -> u64
+    ensures { λ r. ⌜ r ≡ h .play .pending ⌝ }
 {
-    s.pending
+    h.play.pending
 }
 
 // The tick that the next submit fills. A press that depends on the tick goes by this one, and never by the pending
 // tick, which moves with the radio.
-pub fn next_local_tick(s: Session) -> u64
-    ensures { λ r. ⌜ r ≡ s .next ⌝ }
+pub fn next_local_tick(h: Head) -> u64
+    ensures { λ r. ⌜ r ≡ h .play .«next_local» ⌝ }
 {
-    s.next
+    h.play.next_local
 }
 
-pub fn is_playing(s: Session) -> bool
-    ensures { λ r. ⌜ r ≡ isPlaying s ⌝ }
+pub fn is_playing(h: Head) -> bool
+    ensures { λ r. ⌜ r ≡ isPlaying h ⌝ }
 {
-    let standing = s.outcome;
+    let standing = h.outcome;
     if is_over(standing) {
         return false;
     }
-    s.playing
+    h.marks.started
 }
 
-pub fn outcome(s: Session) -> Standing
-    ensures { λ r. ⌜ r ≡ s .outcome ⌝ }
+pub fn outcome(h: Head) -> Standing
+    ensures { λ r. ⌜ r ≡ h .outcome ⌝ }
 {
-    s.outcome
+    h.outcome
 }
 
-pub fn input_digest(s: Session) -> u64
-    ensures { λ r. ⌜ r ≡ s .digest ⌝ }
+pub fn input_digest(h: Head) -> u64
+    ensures { λ r. ⌜ r ≡ h .play .digest ⌝ }
 {
-    s.digest
+    h.play.digest
 }
 
 // Whether the host owes a press now. Ask once a turn, and submit at most once: whoever submits until it says no fills
 // the window with one moment's press.
-pub fn wants_local(s: Session) -> bool
-    ensures { λ r. ⌜ r ≡ wantsLocal s ⌝ }
+pub fn wants_local(h: Head) -> bool
+    ensures { λ r. ⌜ r ≡ wantsLocal h ⌝ }
 {
-    let standing = s.outcome;
+    let standing = h.outcome;
     if is_over(standing) {
         return false;
     }
-    if s.params.bad_state() {
+    if h.params.bad_state() {
         return false;
     }
-    if s.next > logic::saturating_add(s.pending, s.params.delay as u64) {
+    let next = h.play.next_local;
+    let pending = h.play.pending;
+    if next > logic::saturating_add(pending, logic::long(h.params.delay)) {
         return false;
     }
-    logic::saturating_sub(s.next, s.pending) < peer::WINDOW
+    logic::saturating_sub(next, pending) < peer::WINDOW
 }

@@ -8,17 +8,16 @@ use mathlib.Core.Bool.{true, false, true≢false}
 use native.Mathlib.Omega.{arith}
 use lib.ListN.{length, length-take}
 use borrow.Author.Tests.{ltb-true, ltb-false, leb-true, leb-false}
-use Rattle.logic.specs.Saturating.{most, raised}
+use Rattle.logic.specs.Saturating.{most, sum, raised}
 use Rattle.logic.proofs.Cases.{byTest, caseEq}
 use Rattle.peer.specs.Seats.{seats}
 use Rattle.peer.specs.Cells.{window, slotOf}
 use Rattle.params.specs.Params.{maxWidth}
 use Rattle.window.specs.Window.{isHeld, frameOf, writeFrame, written}
-use Rattle.window.specs.Absorb.{sameBytes, noted, repeats, stores, absorbOne}
+use Rattle.window.specs.Absorb.{Absorbed, sameBytes, noted, repeats, stores, absorbOne}
 use Rattle.window.specs.Absorb.{frameAt, untouched, absorbFirst, absorbInputs}
 use Rattle.wire.specs.declared.InputsBody.{InputsBody}
 use Rattle.window.specs.declared.Window.{Window}
-use Rattle.window.specs.declared.Absorbed.{Absorbed}
 use Rattle.window.specs.declared.Note.the-variants.{OutOfWindow, Contradiction}
 use Rattle.window.proofs.Same.{same-eq, same-refl}
 use Rattle.window.proofs.Laws.{Sized, Holds, write-is, written-sized, is-held-same}
@@ -47,7 +46,7 @@ absorb-cases P a pending seat tick bytes below above equal other new =
 
 -- what holds at the start and is kept by each frame holds after each number of frames
 pub frames-keep : (P : Absorbed → Type 0) (a : Absorbed) (pending seat first n : ℕ) (run : List ℕ) → P a
-    → ((x : Absorbed) (i : ℕ) → P x → P (absorbOne x pending seat (first + i) (frameAt run n i)))
+    → ((x : Absorbed) (i : ℕ) → P x → P (absorbOne x pending seat (sum first i) (frameAt run n i)))
     → (k : ℕ) → P (absorbFirst a pending seat first n run k)
 unfolding absorbFirst
 frames-keep P a pending seat first n run start step zero = start
@@ -86,7 +85,7 @@ module _ (w : Window) (repeated pending seat : ℕ) (inputs : InputsBody) (run :
   fair =
       frames-keep (Fair w repeated) (untouched w repeated) pending seat (inputs .first) (inputs .width) run
       record { same = λ _. refl; rises = omega arith; fits = fits }
-      (λ x i h. one-fair w repeated x pending seat (inputs .first + i) (frameAt run (inputs .width) i) h)
+      (λ x i h. one-fair w repeated x pending seat (sum (inputs .first) i) (frameAt run (inputs .width) i) h)
       (inputs .count)
 
   pub unwritten : absorbInputs w repeated pending seat inputs run .wrote ≡ false
@@ -156,4 +155,4 @@ module _ (pending n r u : ℕ) (frame : List ℕ) (low : r < seats) (narrow : n 
       → Kept pending n r u frame (absorbFirst a pending seat first n run k .window)
   first-write-wins a seat first run k s h =
       frames-keep (KeptIn pending n r u frame) a pending seat first n run (record { kept = h })
-      (λ x i q. one-keeps x seat (first + i) (frameAt run n i) s (frame-short run n i narrow) q) k .kept
+      (λ x i q. one-keeps x seat (sum first i) (frameAt run n i) s (frame-short run n i narrow) q) k .kept

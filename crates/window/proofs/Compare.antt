@@ -9,8 +9,7 @@ use borrow.Author.Tests.{le-ltb, lt-leb}
 use Rattle.logic.specs.Test.{if_then_else_}
 use Rattle.peer.specs.Cells.{window}
 use Rattle.window.specs.Window.{isHeld, frameOf, frameStart, standing}
-use Rattle.window.specs.Absorb.{sameBytes, absorbOne, repeats, stores, noted}
-use Rattle.window.specs.declared.Absorbed.{Absorbed}
+use Rattle.window.specs.Absorb.{Absorbed, sameBytes, absorbOne, repeats, stores, noted}
 use Rattle.window.specs.declared.Note.the-variants.{Contradiction}
 use Rattle.window.proofs.Same.{same-is}
 

@@ -6,18 +6,17 @@ use mathlib.Core.Path.{_≡_, refl}
 use mathlib.Core.List.{List, [], _∷_}
 use mathlib.Core.Bool.{Bool, true, false}
 use Rattle.logic.specs.Test.{if_then_else_}
-use Rattle.logic.specs.Saturating.{raised}
+use Rattle.logic.specs.Saturating.{sum, raised}
 use Rattle.peer.specs.Seats.{has, setOf, adding}
 use Rattle.window.specs.Window.{freshWindow, heldBy, isHeld, frameOf, written, writeFrame}
-use Rattle.window.specs.Absorb.{sameBytes, absorbOne, frameAt, absorbFirst, absorbInputs}
+use Rattle.window.specs.Absorb.{Absorbed, sameBytes, absorbOne, frameAt, absorbFirst, absorbInputs}
 use Rattle.window.specs.declared.Window.{Window}
 use Rattle.window.specs.declared.Note.{Note}
 use Rattle.window.specs.declared.Note.the-variants.{Nothing, OutOfWindow, Contradiction}
-use Rattle.window.specs.declared.Absorbed.{Absorbed}
 
 -- what a message's frames compute with, as one name to unfold
 absorbing : Unit {0}
-unfolding freshWindow has setOf adding heldBy isHeld frameOf written writeFrame raised sameBytes
+unfolding freshWindow has setOf adding heldBy isHeld frameOf written writeFrame sum raised sameBytes
     absorbOne frameAt absorbFirst absorbInputs if_then_else_
 absorbing = tt
 

@@ -15,14 +15,18 @@ use Rattle.params.specs.Params.{maxWidth}
 use Rattle.window.specs.declared.Window.{Window}
 
 abbrev pub ringBytes : ℕ
-ringBytes = 8192
+ringBytes = seats * window * maxWidth
 
 -- the cells of a seat stand in a row, and sixteen bytes are kept in each
 abbrev pub frameStart : ℕ → ℕ → ℕ
 frameStart seat tick = (seat * window + slotOf tick) * maxWidth
 
+-- a window of its three lists
+abbrev pub windowOf : (ring ticks present : List ℕ) → Window
+windowOf ring ticks present = record { ring = ring; ticks = ticks; present = present }
+
 unfoldable pub freshWindow : Window
-freshWindow = record { ring = replicate ringBytes 0; ticks = replicate window most; present = replicate window 0 }
+freshWindow = windowOf (replicate ringBytes 0) (replicate window most) (replicate window 0)
 
 -- the seats whose frame for the tick is held: those of its cell, if that stands at this very tick
 unfoldable pub heldBy : Window → ℕ → ℕ

@@ -2,7 +2,8 @@
 -- each kind. Assumes nothing.
 use mathlib.Core.Path.{_≡_, refl}
 use mathlib.Core.List.{List, [], _∷_}
-use Prim.Native.Nat.{ℕ}
+use Prim.Native.Nat.{ℕ, _+_, _-_}
+use Rattle.peer.specs.Seats.{seats}
 use lib.ListN.{replicate}
 use Rattle.logic.specs.Test.{if_then_else_}
 use Rattle.logic.specs.Range.{outside}
@@ -32,13 +33,13 @@ inputs : (first count width : ℕ) → Body
 inputs first count width = Inputs (record { first = first; count = count; width = width })
 
 hellos :
-    form 7 1 (hello 2 1 0 1) 0 ∷ form 8 1 (hello 2 1 0 1) 0 ∷ form 7 0 (hello 2 1 0 1) 0
-    ∷ form 0 1 (hello 1 1 0 1) 0 ∷ form 0 1 (hello 8 1 0 1) 0 ∷ form 0 1 (hello 9 1 0 1) 0
+    form (seats - 1) 1 (hello 2 1 0 1) 0 ∷ form seats 1 (hello 2 1 0 1) 0 ∷ form (seats - 1) 0 (hello 2 1 0 1) 0
+    ∷ form 0 1 (hello 1 1 0 1) 0 ∷ form 0 1 (hello seats 1 0 1) 0 ∷ form 0 1 (hello (seats + 1) 1 0 1) 0
     ∷ form 0 1 (hello 2 0 0 1) 0 ∷ form 0 1 (hello 2 16 0 1) 0 ∷ form 0 1 (hello 2 17 0 1) 0
     ∷ form 0 1 (hello 2 1 63 1) 0 ∷ form 0 1 (hello 2 1 64 1) 0
     ∷ form 0 1 (hello 2 1 0 0) 0 ∷ form 0 1 (hello 2 1 0 255) 0
-    ∷ form 8 0 (hello 1 0 64 0) 0 ∷ form 7 0 (hello 1 0 64 0) 0 ∷ form 7 1 (hello 1 0 64 0) 0
-    ∷ form 7 1 (hello 2 0 64 0) 0 ∷ form 7 1 (hello 2 1 64 0) 0
+    ∷ form seats 0 (hello 1 0 64 0) 0 ∷ form (seats - 1) 0 (hello 1 0 64 0) 0 ∷ form (seats - 1) 1 (hello 1 0 64 0) 0
+    ∷ form (seats - 1) 1 (hello 2 0 64 0) 0 ∷ form (seats - 1) 1 (hello 2 1 64 0) 0
     ∷ []
     ≡ 0 ∷ 1 ∷ 2
     ∷ 3 ∷ 0 ∷ 3
@@ -51,7 +52,7 @@ unfolding form hello formOf bodyForm helloForm outside if_then_else_
 hellos = refl
 
 of-inputs :
-    form 8 1 (inputs 0 1 1) 1 ∷ form 7 0 (inputs 0 1 1) 1
+    form seats 1 (inputs 0 1 1) 1 ∷ form (seats - 1) 0 (inputs 0 1 1) 1
     ∷ form 0 1 (inputs 0 1 0) 0 ∷ form 0 1 (inputs 0 1 1) 1 ∷ form 0 1 (inputs 0 1 16) 16 ∷ form 0 1 (inputs 0 1 17) 17
     ∷ form 0 1 (inputs 0 0 1) 0 ∷ form 0 1 (inputs 0 8 1) 8 ∷ form 0 1 (inputs 0 9 1) 9
     ∷ form 0 1 (inputs 0 8 16) 127 ∷ form 0 1 (inputs 0 8 16) 128 ∷ form 0 1 (inputs 0 8 16) 129
@@ -73,8 +74,8 @@ of-inputs = refl
 others :
     form 0 1 (Digest (record { tick = 0; state = 0; input = 0 })) 5 ∷ form 0 1 (Bye (record { tick = 0 })) 5
     ∷ form 0 1 (Other 0) 0 ∷ form 0 1 (Other 1) 0 ∷ form 0 1 (Other 4) 0 ∷ form 0 1 (Other 5) 0
-    ∷ form 8 0 (Other 5) 0 ∷ form 0 0 (Other 5) 0 ∷ form 8 0 (Bye (record { tick = 0 })) 0
-    ∷ form 7 0 (Digest (record { tick = 0; state = 0; input = 0 })) 0
+    ∷ form seats 0 (Other 5) 0 ∷ form 0 0 (Other 5) 0 ∷ form seats 0 (Bye (record { tick = 0 })) 0
+    ∷ form (seats - 1) 0 (Digest (record { tick = 0; state = 0; input = 0 })) 0
     ∷ []
     ≡ 0 ∷ 0
     ∷ 10 ∷ 0 ∷ 0 ∷ 10

@@ -1,27 +1,22 @@
 -- `deliver::absorb_inputs` meets its contract. Assumes nothing.
-use mathlib.Core.Path.{sym, ap, _∙_}
 use borrow.Author.Needs.{needs}
 use borrow.Author.Tests.{eq-eqb, ne-eqb}
-use Rattle.logic.proofs.Cases.{if-true, if-false}
+use Rattle.logic.specs.Test.{if_then_else_}
 use Rattle.stats.specs.Stats.{repeatedOf}
-use Rattle.deliver.specs.Deliver.{absorb, framesTaken}
+use Rattle.deliver.specs.Deliver.{framesNoted, framesTaken, absorb}
 use Rattle.deliver.proofs.absorb_inputs.Statement.{statement}
 use Rattle.deliver.proofs.absorb_inputs.Tie as tie
 
-absorb-inputs-requires : tie.Need-absorb-inputs-requires
-absorb-inputs-requires c κs = c .before .before .before .pre
-
 returns : tie.Need-returns
-unfolding absorb
-returns c = c .refuse .ensures ∙ sym (if-false _ _ (ne-eqb _ _ (c .before .if1 .taken)))
+unfolding absorb if_then_else_
+returns c = λ p. rw (ne-eqb _ _ (c .before .if1 .taken), c .refuse .ensures)
 
 returns-2 : tie.Need-returns-2
-unfolding absorb framesTaken repeatedOf
-returns-2 c =
-    let at = c .before .before .before in
-    let s = at .before .before .before .before .args .s in
-    c .answer-note .ensures
-    ∙ sym (if-true _ _ (eq-eqb _ _ (at .before .if1 .left)) ∙ ap (framesTaken s) (sym (at .absorb-inputs .ensures)))
+unfolding absorb framesTaken framesNoted repeatedOf if_then_else_
+returns-2 c = λ p.
+    let took = c .before .before in
+    let agreed = took .before .before .before .before in
+    rw (eq-eqb _ _ (agreed .if1 .left), ← took .absorb-inputs .ensures, ← c .answer-note .ensures)
 
 pub absorb-inputs-spec : {M : Type 1} → statement M
-absorb-inputs-spec = tie.close (tie.spec (search needs) returns absorb-inputs-requires (search needs) returns-2)
+absorb-inputs-spec = tie.close (tie.spec (search needs) returns (search needs) (search needs) returns-2)

@@ -14,13 +14,13 @@ use Rattle.pump.proofs.first_kind.Statement.{statement}
 use Rattle.pump.proofs.first_kind.Tie as tie
 
 -- past an outcome, and past joining
-going : (c : tie.After-enum-told2) → let s = c .before .before .args .s in
-    firstKind s ≡ if isPlaying s && isSubset seats (remotesOf (s .params)) (s .seen) then Inputs else Hello
+going : (c : tie.After-enum-told2) → let h = c .before .before .args .h in
+    firstKind h ≡ if isPlaying h && isSubset seats (remotesOf (h .params)) (h .marks .playing) then Inputs else Hello
 unfolding firstKind
 going c = if-false _ _ (ap isOver (c .enum-told2 .given .1))
 
-marks : (c : tie.After-subset) → let s = c .before .before .before .before .before .before .args .s in
-    isPlaying s && isSubset seats (remotesOf (s .params)) (s .seen) ≡ c .subset .result
+marks : (c : tie.After-subset) → let h = c .before .before .before .before .before .before .args .h in
+    isPlaying h && isSubset seats (remotesOf (h .params)) (h .marks .playing) ≡ c .subset .result
 marks c =
     rw (
       sym (c .before .before .before .is-playing .ensures) ∙ not-false _ (c .before .before .if1 .left),
@@ -34,11 +34,11 @@ returns c = sym (if-true _ _ (ap isOver (c .enum-told .given .1)))
 
 returns-2 : tie.Need-returns-2
 returns-2 c =
-    let s = c .before .before .before .before .args .s in
+    let h = c .before .before .before .before .args .h in
     sym
     (going (c .before .before)
     ∙ if-false _ _
-    (ap (λ (on : Bool). on && isSubset seats (remotesOf (s .params)) (s .seen))
+    (ap (λ (on : Bool). on && isSubset seats (remotesOf (h .params)) (h .marks .playing))
     (sym (c .before .is-playing .ensures) ∙ not-true _ (c .if1 .taken))))
 
 returns-3 : tie.Need-returns-3

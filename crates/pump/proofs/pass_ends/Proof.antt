@@ -1,7 +1,7 @@
 -- `pump::pass_ends` meets its contract. Assumes nothing.
 use mathlib.Core.Path.{ap, _∙_}
 use borrow.Author.Needs.{needs}
-use Rattle.session.specs.Session.{withEmit}
+use Rattle.session.specs.Session.{withPass}
 use Rattle.session.specs.declared.Emit.{Emit}
 use Rattle.pump.specs.declared.Outbound.the-variants.{Nothing}
 use Rattle.pump.specs.Pump.{quiet, passEnds}
@@ -12,7 +12,8 @@ returns : tie.Need-returns
 unfolding passEnds
 returns c =
     let at = c .before .before .before .before .before in
-    c .quiet .ensures ∙ ap (λ (kind : Emit). quiet (withEmit (at .before .args .s) kind 0) Nothing)
+    c .quiet .ensures
+    ∙ ap (λ (kind : Emit). quiet (withPass (at .before .args .h) (record { kind = kind; place = 0 })) Nothing)
     (at .first-kind .ensures)
 
 pub pass-ends-spec : {M : Type 1} → statement M

@@ -1,8 +1,10 @@
 -- `pump::pump_hello` meets its contract. Assumes nothing.
 use mathlib.Core.Path.{_≡_, sym, _∙_}
+use denote.Ref.{now}
 use borrow.Author.Needs.{needs}
 use Rattle.logic.specs.Test.{if_then_else_}
 use Rattle.logic.proofs.Cases.{if-true, if-false}
+use Rattle.window.specs.Window.{windowOf}
 use Rattle.session.specs.Session.{isPlaying}
 use Rattle.session.specs.declared.Emit.the-variants.{Hello}
 use Rattle.pump.specs.Pump.{passEnds, pumpInputs, pumpHello}
@@ -14,16 +16,20 @@ returns : tie.Need-returns
 unfolding pumpHello
 returns c =
     let at = c .before .before .before .before in
-    let s = at .before .args .s in
-    c .send .ensures ∙ sym (sent-one s Hello _ (sym (at .say-next .ensures) ∙ c .before .before .said .given .1))
+    let a = at .before .args in
+    c .send .ensures
+    ∙ sym (sent-one (a .h) (windowOf (now (a .ring)) (now (a .ticks)) (now (a .present))) Hello _
+    (sym (at .say-next .ensures (now (a .ring))) ∙ c .before .before .said .given .1))
 
 -- with nothing said, what comes after the kind
-rest : (c : tie.After-enum-told) → let a = c .before .before .before .args in let s = a .s in
-    pumpHello s (a .place) ≡ if isPlaying s then pumpInputs s 0 else passEnds s
+rest : (c : tie.After-enum-told) → let a = c .before .before .before .args in
+    let w = windowOf (now (a .ring)) (now (a .ticks)) (now (a .present)) in
+    pumpHello (a .h) w (a .place) ≡ if isPlaying (a .h) then pumpInputs (a .h) w 0 else passEnds (a .h)
 unfolding pumpHello
 rest c =
-    sent-none (c .before .before .before .args .s) Hello _
-    (sym (c .before .before .say-next .ensures) ∙ c .enum-told .given .1)
+    let a = c .before .before .before .args in
+    sent-none (a .h) (windowOf (now (a .ring)) (now (a .ticks)) (now (a .present))) Hello _
+    (sym (c .before .before .say-next .ensures (now (a .ring))) ∙ c .enum-told .given .1)
 
 returns-2 : tie.Need-returns-2
 returns-2 c =

@@ -31,31 +31,31 @@ add-tick c =
     (omega
     (arith, frame-lt (now (a .ring)) (a .seat) (a .first) (a .count) (a .width) (a .j) (start .pre .1) (in-run c)))
 
-place : (c : tie.After-slot) → let start = c .before .before .before .before .before in
-    let a = start .args in a .j % c .before .before .before .before .wide .result < a .width
+place : (c : tie.After-frame-start) → let start = c .before .before .before .before in
+    let a = start .args in a .j % c .before .before .before .wide .result < a .width
 place c =
-    let start = c .before .before .before .before .before in
+    let start = c .before .before .before .before in
     let a = start .args in
-    rw (c .before .before .before .before .wide .ensures)
+    rw (c .before .before .before .wide .ensures)
     (byte-lt (now (a .ring)) (a .seat) (a .first) (a .count) (a .width) (a .j) (start .pre .1)
-    (in-run (c .before .before)))
+    (in-run (c .before)))
 
-add-result-2 : tie.Need-add-result-2
-add-result-2 c = omega (arith, place c)
+add-result : tie.Need-add-result
+add-result c = omega (arith, c .frame-start .ensures, place c)
 
 element-copy-out-result : tie.Need-element-copy-out-result
-element-copy-out-result c = omega (arith, place c)
+element-copy-out-result c = omega (arith, c .frame-start .ensures, place c)
 
 returns-2 : tie.Need-returns-2
 returns-2 c =
-    let at = c .before .before .before in
+    let at = c .before .before in
     let start = at .before .before .before in
     let a = start .args in
-    rw (c .before .slot .ensures, c .before .before .wide3 .ensures, at .before .before .wide .ensures)
+    rw (c .before .frame-start .ensures, at .before .before .wide .ensures)
     (run-byte-is (now (a .ring)) (a .seat) (a .first) (a .count) (a .width) (a .j) (start .pre .1) (in-run at))
 
 pub run-byte-spec : {M : Type 1} → statement M
 run-byte-spec =
     tie.close
     (tie.spec (search needs) (search needs) mul-if1 returns (search needs) add-tick (search needs) (search needs)
-    (search needs) (search needs) (search needs) (search needs) add-result-2 element-copy-out-result returns-2)
+    add-result element-copy-out-result returns-2)

@@ -1,96 +1,91 @@
 -- `pump::span` meets its contract: the frames so far, and those from `tick` back. Assumes nothing.
+use Prim.Native.Nat.{ℕ, _+_, _-_, _≤_}
 use mathlib.Core.Path.{_≡_, sym, _∙_}
-use mathlib.Core.Bool.{false}
-use Prim.Native.Nat.{_+_, _-_, _≤_}
+use mathlib.Core.Bool.{true}
+use mathlib.Core.List.{List}
 use native.Mathlib.Omega.{arith}
+use denote.Ref.{now}
 use borrow.Author.Needs.{needs}
-use borrow.Author.Tests.{eq-eqb, ne-eqb, not-true, not-false}
-use Rattle.logic.specs.Test.{if_then_else_}
-use Rattle.peer.proofs.Laws.{has-zero}
+use borrow.Author.Tests.{not-true, not-false}
 use Rattle.wire.specs.Wire.{redundancy}
-use Rattle.window.specs.Window.{heldBy, isHeld}
+use Rattle.window.specs.Window.{windowOf, isHeld}
 use Rattle.pump.specs.Pump.{span}
 use Rattle.pump.proofs.Loops.{span-gone, span-start, span-more, span-full}
 use Rattle.pump.proofs.span.Statement.{statement}
 use Rattle.pump.proofs.span.Tie as tie
 
 abbrev Inv-loop : tie.InvT-loop
-Inv-loop seat newest w₀ tick₀ n₀ tick n =
-    (n ≤ redundancy) × (span w₀ seat newest redundancy ≡ n + span w₀ seat tick (redundancy - n))
+Inv-loop ticks present seat newest tick₀ n₀ tick n =
+    (n ≤ redundancy)
+    × ((ring : List ℕ) → let w = windowOf ring ticks present in
+    span w seat newest redundancy ≡ n + span w seat tick (redundancy - n))
 
 abbrev μ-loop : tie.MeasureT-loop
-μ-loop seat newest w₀ tick₀ n₀ tick n = redundancy - n
+μ-loop ticks present seat newest tick₀ n₀ tick n = redundancy - n
 
 loop-holds : tie.Need-loop-holds Inv-loop μ-loop
-loop-holds c = (omega arith, omega arith)
-
--- the cell stands at another tick
-elsewhere : (c : tie.Then1 Inv-loop μ-loop) → let l = c .before .before .before .before in
-    isHeld (l .before .args .t1) (l .before .args .seat) (l .loop .tick) ≡ false
-unfolding isHeld heldBy if_then_else_
-elsewhere c = rw (← c .before .before .slot .ensures, ne-eqb _ _ (c .if1 .taken)) (has-zero _)
-
--- whether the cell holds the seat is whether the frame is held
-cell-holds : (c : tie.After-contains Inv-loop μ-loop) →
-    let l = c .before .before .before .before .before .before in
-    isHeld (l .before .args .t1) (l .before .args .seat) (l .loop .tick) ≡ c .contains .result
-unfolding isHeld heldBy if_then_else_
-cell-holds c =
-    let e = c .before .before in
-    rw (← e .before .before .slot .ensures, eq-eqb _ _ (e .if1 .left)) (sym (c .contains .ensures))
+loop-holds c = (omega arith, λ ring. omega arith)
 
 returns : tie.Need-returns Inv-loop μ-loop
 returns c =
-    let l = c .before .before .before .before in
+    λ ring.
+    let l = c .before .before .before in
     let a = l .before .args in
-    omega (arith, l .loop .inv .1, span-gone (a .t1) (a .seat) (l .loop .tick) (l .loop .n) (omega arith) (elsewhere c))
+    let w = windowOf ring (now (a .ticks)) (now (a .present)) in
+    omega (
+      arith,
+      l .loop .inv .1 ring,
+      span-gone w (a .seat) (l .loop .tick) (l .loop .n) (omega arith)
+          (sym (c .before .holds .ensures ring) ∙ not-true _ (c .if1 .taken)),
+    )
+
+-- the frame is held
+held : (c : tie.Else1 Inv-loop μ-loop) (ring : List ℕ) → let l = c .before .before .before in let a = l .before .args in
+    isHeld (windowOf ring (now (a .ticks)) (now (a .present))) (a .seat) (l .loop .tick) ≡ true
+held c ring = sym (c .before .holds .ensures ring) ∙ not-false _ (c .if1 .left)
 
 returns-2 : tie.Need-returns-2 Inv-loop μ-loop
 returns-2 c =
-    let l = c .before .before .before .before .before .before .before in
+    λ ring.
+    let l = c .before .before .before .before in
     let a = l .before .args in
+    let w = windowOf ring (now (a .ticks)) (now (a .present)) in
     omega (
       arith,
-      l .loop .inv .1,
-      span-gone (a .t1) (a .seat) (l .loop .tick) (l .loop .n) (omega arith)
-          (cell-holds (c .before) ∙ not-true _ (c .if2 .taken)),
-    )
-
-returns-3 : tie.Need-returns-3 Inv-loop μ-loop
-returns-3 c =
-    let l = c .before .before .before .before .before .before .before .before in
-    let a = l .before .args in
-    omega (
-      arith,
-      l .loop .inv .1,
-      span-start (a .t1) (a .seat) (l .loop .tick) (l .loop .n) (omega arith)
-          (cell-holds (c .before .before) ∙ not-false _ (c .before .if2 .left)) (c .if3 .taken),
+      l .loop .inv .1 ring,
+      span-start w (a .seat) (l .loop .tick) (l .loop .n) (omega arith)
+          (held (c .before) ring) (c .if2 .taken),
     )
 
 loop-again : tie.Need-loop-again Inv-loop μ-loop
 loop-again c =
-    let l = c .before .before .before .before .before .before .before .before in
+    let l = c .before .before .before .before in
     let a = l .before .args in (
       omega arith,
-      omega (
-        arith,
-        l .loop .inv .1,
-        span-more (a .t1) (a .seat) (l .loop .tick) (l .loop .n) (omega arith)
-            (cell-holds (c .before .before) ∙ not-false _ (c .before .if2 .left)) (c .if3 .left),
-      ),
+      λ ring.
+          let w = windowOf ring (now (a .ticks)) (now (a .present)) in
+          omega (
+            arith,
+            l .loop .inv .1 ring,
+            span-more w (a .seat) (l .loop .tick) (l .loop .n) (omega arith)
+                (held (c .before) ring) (c .if2 .left),
+          ),
     )
 
-returns-4 : tie.Need-returns-4 Inv-loop μ-loop
-returns-4 c =
+returns-3 : tie.Need-returns-3 Inv-loop μ-loop
+returns-3 c =
+    λ ring.
     let l = c .before in
+    let a = l .before .args in
+    let w = windowOf ring (now (a .ticks)) (now (a .present)) in
     omega (
       arith,
-      l .loop .inv .1,
-      span-full (l .before .args .t1) (l .before .args .seat) (l .loop .tick) (l .loop .n) (omega arith),
+      l .loop .inv .1 ring,
+      span-full w (a .seat) (l .loop .tick) (l .loop .n) (omega arith),
     )
 
 pub span-spec : {M : Type 1} → statement M
 span-spec =
     tie.close
-    (tie.spec Inv-loop μ-loop loop-holds (search needs) (search needs) (search needs) returns (search needs)
-    (search needs) returns-2 (search needs) returns-3 (search needs) (λ c. omega arith) loop-again returns-4)
+    (tie.spec Inv-loop μ-loop loop-holds (search needs) returns (search needs) returns-2 (search needs)
+    (λ c. omega arith) loop-again returns-3)

@@ -32,6 +32,8 @@ use denote.Triple.Spec.{Meets, tripleOf}
 use denote.Triple.Table.{entered}
 use denote.Triple.Walked.{says, Stays, stay-dropped, goes-dropped, walkOf, AllGo, Walks, ends-at, walked, walk-meets}
 use denote.Exit.{yes}
+use Rattle.peer.specs.Seats.{seats}
+use Rattle.params.specs.Params.{maxWidth}
 use Rattle.rows.specs.Rows.{laid}
 use Rattle.rows.proofs.Unmapped.{unmapped}
 use Rattle.rows.proofs.Frames as T
@@ -42,13 +44,13 @@ use Rattle.rows.proofs.lay.Statement as stated
 use Rattle.rows.proofs.lay.Code as code
 
 abbrev Rows : RattleType
-Rows = Array (Array u8 16) 8
+Rows = Array (Array u8 maxWidth) seats
 
 abbrev stayed : Stays (f.ended .signature .params) (f.ended .kept)
 stayed = (stay-dropped (plain (λ _. Rows)) yes, tt)
 
 -- what the parameter's type proves of it
-abbrev L : LL.FLaws (array-field (array-field u8-field 16) 8)
+abbrev L : LL.FLaws (array-field (array-field u8-field maxWidth) seats)
 L = T′.the-laws .0
 
 module _ {M : Type 1} (𝓤 : URA M) (H : Heap 𝓤) (A : Atoms 𝓤) (W : Given 𝓤 H A)

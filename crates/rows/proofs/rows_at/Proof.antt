@@ -4,34 +4,34 @@ use mathlib.Core.List.{[]}
 use Prim.Native.Nat.{_-_}
 use native.Mathlib.Omega.{arith}
 use lib.Dec.{ltb}
+use lib.ListN.{take, drop}
 use borrow.Author.Needs.{needs}
 use Rattle.logic.specs.Test.{if_then_else_}
 use Rattle.logic.proofs.Tabulated.{Filled, filled-none, filled-more, filled-all}
 use Rattle.peer.specs.Seats.{seats}
-use Rattle.window.specs.Window.{frameOf}
+use Rattle.window.specs.Window.{frameStart, frameOf}
 use Rattle.rows.specs.Rows.{padded, rowsOf}
 use Rattle.rows.proofs.Loops.{take-if}
 use Rattle.rows.proofs.rows_at.Statement.{statement}
 use Rattle.rows.proofs.rows_at.Tie as tie
 
 abbrev Inv-loop : tie.InvT-loop
-Inv-loop tick count width w n cell rows₀ k₀ rows k =
-    Filled [] (λ j. padded (if ltb j count then frameOf w j tick width else [])) seats k rows
+Inv-loop ring tick count width n cell rows₀ k₀ rows k =
+    Filled [] (λ j. padded (if ltb j count then take width (drop (frameStart j tick) ring) else [])) seats k rows
 
 abbrev μ-loop : tie.MeasureT-loop
-μ-loop tick count width w n cell rows₀ k₀ rows k = seats - k
+μ-loop ring tick count width n cell rows₀ k₀ rows k = seats - k
 
 loop-again : tie.Need-loop-again Inv-loop μ-loop
-unfolding frameOf
 loop-again c =
-    let l = c .before .before .before .before .before in
+    let l = c .before .before .before in
     filled-more (l .loop .inv) (omega arith)
     (c .row-at .ensures
     ∙ rw (c .before .kept-if .ensures, l .before .slot .ensures, l .before .before .wide .ensures, take-if))
 
 returns : tie.Need-returns Inv-loop μ-loop
-unfolding rowsOf
-returns c = filled-all (c .before .loop .inv) (omega arith)
+unfolding rowsOf frameOf
+returns c = λ ticks present. filled-all (c .before .loop .inv) (omega arith)
 
 pub rows-at-spec : {M : Type 1} → statement M
 rows-at-spec =

@@ -34,6 +34,8 @@ use denote.Triple.Spec.{Meets, tripleOf}
 use denote.Triple.Table.{entered}
 use denote.Triple.Walked.{says, Stays, stay-dropped, goes-dropped, walkOf, AllGo, Walks, ends-at, walked, walk-meets}
 use denote.Exit.{yes}
+use Rattle.peer.specs.Seats.{seats}
+use Rattle.params.specs.Params.{maxWidth}
 use Rattle.rows.specs.declared.Frames.{Frames}
 use Rattle.rows.proofs.Unmapped.{unmapped}
 use Rattle.rows.proofs.Frames as T
@@ -44,12 +46,12 @@ use Rattle.rows.proofs.rows_in.Statement as stated
 use Rattle.rows.proofs.rows_in.Code as code
 
 abbrev Rows : RattleType
-Rows = Array (Array u8 16) 8
+Rows = Array (Array u8 maxWidth) seats
 
 abbrev stayed : Stays (f.ended .signature .params) (f.ended .kept)
 stayed = (stay-dropped (plain (λ _. T.the-row)) yes, tt)
 
-abbrev L : LL.FLaws (array-field (array-field u8-field 16) 8)
+abbrev L : LL.FLaws (array-field (array-field u8-field maxWidth) seats)
 L = T′.the-laws .0
 
 -- a record's machine value
@@ -74,7 +76,8 @@ module _ {M : Type 1} (𝓤 : URA M) (H : Heap 𝓤) (A : Atoms 𝓤) (W : Given
   exits =
       qed W [] ∵ suffices ! _ (ends-at 𝓤 H A f.ended stayed (f.clauses 𝓤 H A mem run) W
       ((tt, tt, tt, (h, tt), (val h ∷ [], tt)), tt) v (h .rows) (tt, tt) (tt, tt)) $ says ! refl $
-      owned ! Rows (Is Rows) (array-makes 𝓤 H A W (Array u8 16) (array-makes 𝓤 H A W u8 (uint-makes 𝓤 H A W w8) 16) 8)
+      owned ! Rows (Is Rows)
+      (array-makes 𝓤 H A W (Array u8 maxWidth) (array-makes 𝓤 H A W u8 (uint-makes 𝓤 H A W w8) maxWidth) seats)
       (h .rows) _ of-rows $ nothing ! $ nothing ! $ fjoin ! $ nothing ! $ done !
 
   module _ (C : Calls 𝓤 H) (Λ : Loops 𝓤 H) where

@@ -6,7 +6,7 @@ use Rattle.params.proofs.SessionParams.bad_state.Tie as tie
 
 returns : tie.Need-returns
 unfolding badState
-returns c = cc
+returns c = rw (← c .before .validate .ensures, ← c .number .ensures)
 
 pub bad-state-spec : {M : Type 1} → statement M
 bad-state-spec = tie.close (tie.spec (search needs) (search needs) returns)

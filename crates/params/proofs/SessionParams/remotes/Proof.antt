@@ -6,7 +6,7 @@ use Rattle.params.proofs.SessionParams.remotes.Tie as tie
 
 returns : tie.Need-returns
 unfolding remotesOf
-returns c = cc
+returns c = rw (← c .before .roster .ensures) (c .without .ensures)
 
 pub remotes-spec : {M : Type 1} → statement M
 remotes-spec = tie.close (tie.spec (search needs) (search needs) returns)

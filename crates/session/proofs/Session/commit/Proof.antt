@@ -1,61 +1,13 @@
--- `session::Session::commit` meets its contract: each return is a case of the definition. Assumes nothing.
-use mathlib.Core.Path.{_≡_, sym, _∙_}
-use mathlib.Core.Bool.{false}
+-- `session::Session::commit` meets its contract: it is the call in place on its parts. Assumes nothing.
 use borrow.Author.Needs.{needs}
-use borrow.Author.Tests.{eq-eqb, ne-eqb}
-use Rattle.logic.specs.Test.{if_then_else_}
-use Rattle.params.specs.Params.{badState}
-use Rattle.session.specs.Step.{commit, commitFrom}
 use Rattle.session.proofs.Session.commit.Statement.{statement}
 use Rattle.session.proofs.Session.commit.Tie as tie
 
-good : (c : tie.Else1) → badState (c .before .before .args .self .params) ≡ false
-good c = sym (c .before .bad-state .ensures) ∙ c .if1 .left
-
 returns : tie.Need-returns
-unfolding commit if_then_else_
-returns c = rw (sym (c .before .bad-state .ensures) ∙ c .if1 .taken)
-
-returns-2 : tie.Need-returns-2
-unfolding commit commitFrom if_then_else_
-returns-2 c = rw (good (c .before .before), c .enum-told .given .1)
-
-returns-3 : tie.Need-returns-3
-unfolding commit commitFrom if_then_else_
-returns-3 c =
-    let out = c .before .before in
-    rw (good (out .before .before), out .outstanding .given .1, ne-eqb _ _ (c .if2 .taken))
-
-returns-4 : tie.Need-returns-4
-unfolding commit commitFrom if_then_else_
-returns-4 c =
-    let two = c .before .before in
-    let out = two .before .before in
-    rw (
-      good (out .before .before),
-      out .outstanding .given .1,
-      eq-eqb _ _ (two .if2 .left),
-      sym (c .before .mismatches .ensures) ∙ c .if3 .taken,
-    )
-
-returns-5 : tie.Need-returns-5
-unfolding commit commitFrom if_then_else_
-returns-5 c =
-    let raise = c .before .before .before .before .before in
-    let three = raise .before in
-    let two = three .before .before in
-    let out = two .before .before in
-    rw (
-      good (out .before .before),
-      out .outstanding .given .1,
-      eq-eqb _ _ (two .if2 .left),
-      sym (three .before .mismatches .ensures) ∙ three .if3 .left,
-      c .keep-digest .ensures,
-      raise .raise .ensures,
-    )
+returns c =
+    let done = c .before .before in
+    let start = done .before .before .before .before .before .before .before .before .before .before in
+    done .commit .ensures (start .args .self .window)
 
 pub commit-spec : {M : Type 1} → statement M
-commit-spec =
-    tie.close
-    (tie.spec (search needs) returns (search needs) (search needs) returns-2 returns-3 (search needs) returns-4
-    (search needs) (search needs) returns-5)
+commit-spec = tie.close (tie.spec (search needs) returns)

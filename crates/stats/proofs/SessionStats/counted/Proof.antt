@@ -6,7 +6,15 @@ use Rattle.stats.proofs.SessionStats.counted.Tie as tie
 
 returns : tie.Need-returns
 unfolding countedOf
-returns c = cc
+returns c =
+    let first = c .before .before .before in
+    rw (
+      first .raise-if .ensures,
+      c .before .before .raise-if2 .ensures,
+      c .before .raise-if3 .ensures,
+      c .raise-if4 .ensures,
+      first .before .is-outside .ensures,
+    )
 
 pub counted-spec : {M : Type 1} → statement M
 counted-spec = tie.close (tie.spec (search needs) (search needs) (search needs) (search needs) (search needs) returns)

@@ -1,5 +1,5 @@
--- `window::Window::new` meets its contract. The definition stays shut elsewhere, so that no goal writes out 8,192
--- zeros. Assumes nothing.
+-- `window::Window::new` meets its contract. The definition stays shut elsewhere, so that no goal writes out the
+-- ring's zeros. Assumes nothing.
 use mathlib.Core.Path.{refl}
 use Rattle.window.specs.Window.{freshWindow}
 use Rattle.window.proofs.Window.new.Statement.{statement}
