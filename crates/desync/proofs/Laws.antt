@@ -1,6 +1,6 @@
--- Document 01: a report's text is "at most 2,048 bytes". Its numbers are u64 and bytes; then no text is longer than
--- 1,331, so none is cut. Assumes nothing.
-use Prim.Native.Nat.{ℕ, zero, suc, _*_, _^_, _≤_, _<_, min}
+-- Document 01: a report's text is "at most 2,048 bytes". Its numbers are u64 and bytes; then none is longer than
+-- `reportMost`, so none is cut. Assumes nothing.
+use Prim.Native.Nat.{ℕ, zero, suc, _+_, _*_, _^_, _≤_, _<_, min}
 use mathlib.Core.Path.{_≡_, sym, _∙_}
 use mathlib.Core.Bool.{Bool, true, false}
 use mathlib.Core.List.{List}
@@ -12,8 +12,8 @@ use Rattle.fingerprint.specs.declared.LastAgreed.{LastAgreed}
 use Rattle.fingerprint.specs.declared.LastAgreed.the-variants.{Never, At}
 use Rattle.stats.specs.declared.SessionStats.{SessionStats}
 use Rattle.text.specs.Decimal.{decimal}
-use Rattle.text.specs.Text.{textOf, freshText, put}
-use Rattle.text.proofs.Writing.{join-length, fresh-text}
+use Rattle.text.specs.Text.{page, written, put}
+use Rattle.text.proofs.Writing.{join-length, put-front}
 use Rattle.text.proofs.Decimals.{decimal-length}
 use Rattle.text.proofs.Hexes.{hex-length}
 use Rattle.desync.specs.declared.DesyncReport.{DesyncReport}
@@ -21,8 +21,9 @@ use Rattle.desync.specs.declared.Reported.{Reported}
 use Rattle.desync.specs.declared.WriteReport.{WriteReport}
 use Rattle.desync.specs.Asked.{WritesAs}
 use Rattle.desync.specs.Report.{dissentersOf, inputsAgree, isWitnessed}
-use Rattle.desync.specs.Json.{flagText, digestText, seatDigest, tickText, comma, seatList, peerText, peerList}
-use Rattle.desync.specs.Json.{headText, verdictText, ownText, listsText, agreedText, statsText, reportText}
+use Rattle.desync.specs.Json.{reportMost, flagText, digestText, seatDigest, tickText, comma, seatList, peerText}
+use Rattle.desync.specs.Json.{peerList, headText, verdictText, ownText, listsText, agreedText, statsText}
+use Rattle.desync.specs.Json.{reportText}
 
 -- ---- what a record's types say of its numbers
 
@@ -82,28 +83,28 @@ unfolding comma
 comma-length zero = omega arith
 comma-length (suc position) = omega arith
 
-list-length : (set k : ℕ) → k ≤ seats → length (seatList set k) ≤ 2 * k
+list-length : (set k : ℕ) → k ≤ seats → length (seatList set k) ≤ 4 * k
 unfolding seatList
 list-length set zero h = omega arith
 list-length set (suc k) h =
     let shorter = list-length set k (omega arith) in
-    byTest (λ (text : List ℕ). length text ≤ 2 * suc k)
-    (λ _. rw join-length (omega (arith, comma-length (seatCount k set), decimal-length 0 k (omega arith))))
+    byTest (λ (text : List ℕ). length text ≤ 4 * suc k)
+    (λ _. rw join-length (omega (arith, comma-length (seatCount k set), byte-length k (omega arith))))
     (λ _. omega arith)
 
-peer-length : (r : DesyncReport) (k : ℕ) → k < seats → length (peerText r k) ≤ 83
+peer-length : (r : DesyncReport) (k : ℕ) → k < seats → length (peerText r k) ≤ 85
 unfolding peerText
 peer-length r k h =
     rw join-length
     (omega (
       arith,
       comma-length k,
-      decimal-length 0 k (omega arith),
+      byte-length k (omega arith),
       seat-digest-length (r .«states_in») (r .states) k,
       seat-digest-length (r .«inputs_in») (r .inputs) k,
     ))
 
-peers-length : (r : DesyncReport) (k : ℕ) → k ≤ seats → length (peerList r k) ≤ 83 * k
+peers-length : (r : DesyncReport) (k : ℕ) → k ≤ seats → length (peerList r k) ≤ 85 * k
 unfolding peerList
 peers-length r zero h = omega arith
 peers-length r (suc k) h = rw join-length (omega (arith, peers-length r k (omega arith), peer-length r k h))
@@ -130,7 +131,7 @@ module _ (r : DesyncReport) (h : Sized r) where
   unfolding ownText
   own-length = rw join-length (omega (arith, digest-length (r .«local_state»), digest-length (r .«local_input»)))
 
-  lists-length : length (listsText r) ≤ 706
+  lists-length : length (listsText r) ≤ 26 + 89 * seats
   unfolding listsText
   lists-length =
       rw join-length
@@ -168,14 +169,14 @@ module _ (r : DesyncReport) (h : Sized r) where
         u64-length (s .«stall_pumps») (n .stalls),
       ))
 
-  pub report-length : length (reportText r) ≤ 1331
+  pub report-length : length (reportText r) ≤ reportMost
   unfolding reportText
   report-length =
       rw join-length (omega (arith, head-length, verdict-length, own-length, lists-length, agreed-length, stats-length))
 
-  -- so what is written is the text, whole
-  pub report-whole : textOf (put freshText (reportText r)) ≡ reportText r
-  report-whole = fresh-text (reportText r) (omega (arith, report-length))
+  -- so what is written at the front of a buffer is the text, whole
+  pub report-whole : (before : List ℕ) → put (page before 0) (reportText r) ≡ written (reportText r) before
+  report-whole before = put-front before (reportText r) (omega (arith, report-length))
 
 -- the promise fixes the answer and every lent byte: two that meet it are equal
 pub writes-one : {found : Reported} {out : List ℕ} {a b : WriteReport} {after other : List ℕ}

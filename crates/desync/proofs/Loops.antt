@@ -1,8 +1,9 @@
 -- What a turn of each loop does.
 -- Assumes nothing.
 use Prim.Native.Nat.{ℕ, zero, suc, _+_, _≤_}
-use mathlib.Core.Path.{_≡_, refl, sym, ap}
+use mathlib.Core.Path.{_≡_, refl, ap}
 use mathlib.Core.Logic.{_≢_}
+use mathlib.Core.List.{List, []}
 use mathlib.Core.Bool.{Bool, true, false, not, _&&_}
 use native.Mathlib.Numerals.{add-one}
 use native.Mathlib.Omega.{arith}
@@ -11,9 +12,8 @@ use Rattle.peer.specs.Seats.{has, bit, setOf, every, tally, isEmpty, seatCount}
 use Rattle.peer.proofs.Laws.{has-bit, has-above}
 use Rattle.text.specs.Ascii.{ascii}
 use Rattle.text.specs.Decimal.{decimal}
-use Rattle.text.specs.Text.{put}
-use Rattle.text.specs.declared.Text.{Text}
-use Rattle.text.proofs.Writing.{put-nil, put-join}
+use Rattle.text.specs.Text.{Page, page, put}
+use Rattle.text.proofs.Writing.{put-join}
 use Rattle.desync.specs.Json.{comma, seatList}
 
 -- no seat of a set that is said seat by seat
@@ -33,26 +33,28 @@ count-more : (set k : ℕ) → seatCount (k + 1) set ≡ seatCount k set + bit (
 unfolding seatCount
 count-more set k = rw add-one (tally-more k (has set))
 
--- the seats below k are listed and counted
-pub record Listed (t₀ : Text) (set k : ℕ) (t : Text) (position : ℕ) : Type 0 where
+-- the seats below k are listed behind what the page says, and counted
+pub record Listed (p : Page) (set k : ℕ) (out : List ℕ) (end position : ℕ) : Type 0 where
   pub few : position ≤ k
   pub counted : position ≡ seatCount k set
-  pub written : t ≡ put t₀ (seatList set k)
+  pub written : page out end ≡ put p (seatList set k)
 
-pub listed-none : (t : Text) (set : ℕ) → Listed t set 0 t 0
+pub listed-none : (p : Page) (set : ℕ) {out : List ℕ} {end : ℕ} → page out end ≡ put p [] → Listed p set 0 out end 0
 unfolding seatList seatCount tally
-listed-none t set = record { few = omega arith; counted = refl; written = sym (put-nil t) }
+listed-none p set s = record { few = omega arith; counted = refl; written = s }
 
-module _ {t₀ t : Text} {set k position : ℕ} (i : Listed t₀ set k t position) where
-  pub listed-in : has set k ≡ true → Listed t₀ set (k + 1) (put (put t (comma position)) (decimal k)) (position + 1)
+module _ {p : Page} {out : List ℕ} {set k end position : ℕ} (i : Listed p set k out end position) where
+  pub listed-in : {after : List ℕ} {next : ℕ} → has set k ≡ true
+      → page after next ≡ put (put (page out end) (comma position)) (decimal k)
+      → Listed p set (k + 1) after next (position + 1)
   unfolding seatList
-  listed-in h = record {
+  listed-in h s = record {
     few = omega arith;
     counted = rw (count-more, h, i .counted);
-    written = rw (add-one, if-true _ _ h, put-join, i .written, i .counted);
+    written = rw (add-one, if-true _ _ h, put-join, ← i .written, ← i .counted) s;
   }
 
-  pub listed-out : has set k ≡ false → Listed t₀ set (k + 1) t position
+  pub listed-out : has set k ≡ false → Listed p set (k + 1) out end position
   unfolding seatList
   listed-out h = record {
     few = omega arith;

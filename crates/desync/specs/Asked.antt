@@ -69,10 +69,12 @@ reportFor p prints stats Sought′.NoDesync = blankReport
 reportFor p prints stats (Sought′.Desynced tick) = reportAt p prints stats tick
 
 unfoldable pub desyncReport : Session → Reported
-desyncReport s = record {
-  answer = sought (s .params) (s .outcome);
-  report = reportFor (s .params) (s .prints) (s .stats) (sought (s .params) (s .outcome));
-}
+desyncReport s =
+    let h = s .head in
+    record {
+      answer = sought (h .params) (h .outcome);
+      report = reportFor (h .params) (s .prints) (h .stats) (sought (h .params) (h .outcome));
+    }
 
 -- ---- its text in a lent buffer
 

@@ -1,6 +1,6 @@
 -- desync.rs, `DesyncReportJson`: the text of a report, to the byte. Document 01: "Text is as desync.rs prints it".
 -- Assumes nothing.
-use Prim.Native.Nat.{ℕ, zero, suc, min}
+use Prim.Native.Nat.{ℕ, zero, suc, _+_, _*_, min}
 use mathlib.Core.Bool.{Bool, true, false}
 use mathlib.Core.List.{List, [], _∷_}
 use lib.ListN.{getD}
@@ -15,6 +15,13 @@ use Rattle.text.specs.Hex.{hex16}
 use Rattle.text.specs.Text.{join}
 use Rattle.desync.specs.declared.DesyncReport.{DesyncReport}
 use Rattle.desync.specs.Report.{dissentersOf, inputsAgree, isWitnessed}
+
+-- ---- how long it gets
+
+-- no text has more bytes: 89 for each seat, of which three digits twice, as a seat is a byte, and what does not
+-- depend on the seats
+abbrev pub reportMost : ℕ
+reportMost = 651 + 89 * seats
 
 -- ---- values
 

@@ -4,11 +4,14 @@ ghost use mathlib.Core.Path.{_≡_};
 ghost use Prim.Native.Nat.{_≤_, _<_, min};
 ghost use lib.ListN.{length};
 ghost use Rattle.peer.specs.Seats.{seats, setOf};
-ghost use Rattle.text.specs.Text.{freshText, put};
+ghost use Rattle.window.specs.declared.Window as Window′;
+ghost use Rattle.fingerprint.specs.Cells.{printsOf};
+ghost use Rattle.session.specs.Session.{sessionOf};
+ghost use Rattle.text.specs.Text.{page, put};
 ghost use Rattle.text.specs.Decimal.{decimal};
 ghost use Rattle.desync.specs.Report.{othersOf, differs, dissentersOf, inputsAgree, isWitnessed};
 ghost use Rattle.desync.specs.Report.{printIn, isHeld, heardFrom, heardAll, reportAt};
-ghost use Rattle.desync.specs.Json.{flagText, digestText, seatDigest, tickText, comma};
+ghost use Rattle.desync.specs.Json.{reportMost, flagText, digestText, seatDigest, tickText, comma};
 ghost use Rattle.desync.specs.Json.{seatList, peerText, peerList, headText, verdictText};
 ghost use Rattle.desync.specs.Json.{ownText, listsText, agreedText, statsText, reportText};
 ghost use Rattle.desync.specs.Asked.{blankReport, partedAt, sought, reportFor};
@@ -16,16 +19,15 @@ ghost use Rattle.desync.specs.Asked.{desyncReport, writtenOf, WritesAs, 
 ghost use Rattle.desync.specs.Numbers.{soughtNo, writeNo};
 use fingerprint::Cell;
 use fingerprint::Fingerprint;
-use fingerprint::Fingerprints;
 use fingerprint::LastAgreed;
 use params::SessionParams;
 use peer::PeerSet;
+use session::Head;
 use session::Outcome;
 use session::Session;
 use session::Standing;
 use stats::SessionStats;
 use text::Copied;
-use text::Text;
 
 const SEATS: usize = peer::SEATS as usize;
 
@@ -199,52 +201,73 @@ fn is_held(cell: Cell) -> bool
     }
 }
 
-fn heard_from(remotes: PeerSet, prints: Fingerprints, tick: u64, seat: u8) -> Cell
-    ensures { λ r. ⌜ r ≡ heardFrom (remotes .0) prints tick seat ⌝ }
+fn heard_from(
+    remotes: PeerSet,
+    held: &[bool; fingerprint::CELLS],
+    printed: &[u64; fingerprint::CELLS],
+    states: &[u64; fingerprint::CELLS],
+    inputs: &[u64; fingerprint::CELLS],
+    tick: u64,
+    seat: u8,
+) -> Cell
+    ensures { λ r. ⌜ r ≡ heardFrom (remotes .0)
+        (printsOf (now (held .entry)) (now (printed .entry)) (now (states .entry)) (now (inputs .entry))) tick seat ⌝ }
 {
     if remotes.contains(seat) {
-        return prints.remote_for(seat, tick);
+        return fingerprint::remote_for(held, printed, states, inputs, seat, tick);
     }
     Cell::Empty
 }
 
-fn heard_all(remotes: PeerSet, prints: Fingerprints, tick: u64) -> Heard
-    ensures { λ r. ⌜ r ≡ heardAll (remotes .0) prints tick ⌝ }
+fn heard_all(
+    remotes: PeerSet,
+    held: &[bool; fingerprint::CELLS],
+    printed: &[u64; fingerprint::CELLS],
+    states: &[u64; fingerprint::CELLS],
+    inputs: &[u64; fingerprint::CELLS],
+    tick: u64,
+) -> Heard
+    ensures { λ r. ⌜ r ≡ heardAll (remotes .0)
+        (printsOf (now (held .entry)) (now (printed .entry)) (now (states .entry)) (now (inputs .entry))) tick ⌝ }
 {
     let mut there = PeerSet(0);
-    let mut states = [0u64; SEATS];
-    let mut inputs = [0u64; SEATS];
+    let mut heard_states = [0u64; SEATS];
+    let mut heard_inputs = [0u64; SEATS];
     for seat in 0..peer::SEATS {
-        let cell = heard_from(remotes, prints, tick, seat);
+        let cell = heard_from(remotes, held, printed, states, inputs, tick, seat);
         let print = print_in(cell);
-        states[seat as usize] = print.state;
-        inputs[seat as usize] = print.input;
+        heard_states[seat as usize] = print.state;
+        heard_inputs[seat as usize] = print.input;
         if is_held(cell) {
             there = there.with(seat);
         }
     }
     Heard {
         there: there.bits(),
-        states,
-        inputs,
+        states: heard_states,
+        inputs: heard_inputs,
     }
 }
 
 // One's own numbers are those of the tick's cell as it stands; those of the others are of this very tick.
 pub fn report_at(
     params: SessionParams,
-    prints: Fingerprints,
+    held: &[bool; fingerprint::CELLS],
+    printed: &[u64; fingerprint::CELLS],
+    states: &[u64; fingerprint::CELLS],
+    inputs: &[u64; fingerprint::CELLS],
     stats: SessionStats,
     tick: u64,
 ) -> DesyncReport
-    ensures { λ r. ⌜ r ≡ reportAt params prints stats tick ⌝ }
+    ensures { λ r. ⌜ r ≡ reportAt params
+        (printsOf (now (held .entry)) (now (printed .entry)) (now (states .entry)) (now (inputs .entry))) stats tick ⌝ }
 {
-    let mine = print_in(prints.own(tick));
+    let mine = print_in(fingerprint::own(held, printed, states, inputs, tick));
     let remotes = params.remotes();
-    let heard = heard_all(remotes, prints, tick);
-    let last = prints.last_agreed(remotes, tick);
-    let states = heard.states;
-    let inputs = heard.inputs;
+    let heard = heard_all(remotes, held, printed, states, inputs, tick);
+    let last = fingerprint::last_agreed(held, printed, states, inputs, remotes, tick);
+    let theirs = heard.states;
+    let pressed = heard.inputs;
     DesyncReport {
         tick,
         local: params.local,
@@ -252,9 +275,9 @@ pub fn report_at(
         local_state: mine.state,
         local_input: mine.input,
         states_in: heard.there,
-        states,
+        states: theirs,
         inputs_in: heard.there,
-        inputs,
+        inputs: pressed,
         last_agreed: last,
         agreement: params.agreement(),
         content: params.content,
@@ -264,95 +287,122 @@ pub fn report_at(
     }
 }
 
-// ---- its text: each function writes a name and a value
+// ---- its text: each function writes a name and a value behind the first `at` bytes of a lent buffer
 
-fn number(t: Text, name: &[u8], n: u64) -> Text
-    ensures { λ r. ⌜ r ≡ put (put t (now (name .entry))) (decimal n) ⌝ }
+fn number(out: &mut [u8; text::LIMIT], at: usize, name: &[u8], n: u64) -> usize
+    ensures { λ r. ⌜ page (now (out .exit)) r
+        ≡ put (put (page (now (out .entry)) at) (now (name .entry))) (decimal n) ⌝ }
 {
-    t.piece(name).decimal(n)
+    let named = text::piece(out, at, name);
+    text::decimal(out, named, n)
 }
 
-fn flag(t: Text, name: &[u8], on: bool) -> Text
-    ensures { λ r. ⌜ r ≡ put (put t (now (name .entry))) (flagText on) ⌝ }
+fn flag(out: &mut [u8; text::LIMIT], at: usize, name: &[u8], on: bool) -> usize
+    ensures { λ r. ⌜ page (now (out .exit)) r
+        ≡ put (put (page (now (out .entry)) at) (now (name .entry))) (flagText on) ⌝ }
 {
-    let named = t.piece(name);
+    let named = text::piece(out, at, name);
     if on {
-        return named.piece(b"true");
+        return text::piece(out, named, b"true");
     }
-    named.piece(b"false")
+    text::piece(out, named, b"false")
 }
 
-fn digest(t: Text, name: &[u8], n: u64) -> Text
-    ensures { λ r. ⌜ r ≡ put (put t (now (name .entry))) (digestText n) ⌝ }
+fn digest(out: &mut [u8; text::LIMIT], at: usize, name: &[u8], n: u64) -> usize
+    ensures { λ r. ⌜ page (now (out .exit)) r
+        ≡ put (put (page (now (out .entry)) at) (now (name .entry))) (digestText n) ⌝ }
 {
-    t.piece(name).piece(b"\"0x").hex16(n).piece(b"\"")
+    let named = text::piece(out, at, name);
+    let quoted = text::piece(out, named, b"\"0x");
+    let digits = text::hex16(out, quoted, n);
+    text::piece(out, digits, b"\"")
 }
 
-fn seat_digest(t: Text, name: &[u8], there: PeerSet, numbers: [u64; SEATS], seat: u8) -> Text
+fn seat_digest(
+    out: &mut [u8; text::LIMIT],
+    at: usize,
+    name: &[u8],
+    there: PeerSet,
+    numbers: [u64; SEATS],
+    seat: u8,
+) -> usize
     requires { ⌜ seat < seats ⌝ }
-    ensures { λ r. ⌜ r ≡ put (put t (now (name .entry))) (seatDigest (there .0) numbers seat) ⌝ }
+    ensures { λ r. ⌜ page (now (out .exit)) r
+        ≡ put (put (page (now (out .entry)) at) (now (name .entry))) (seatDigest (there .0) numbers seat) ⌝ }
 {
     if there.contains(seat) {
-        return digest(t, name, numbers[seat as usize]);
+        return digest(out, at, name, numbers[seat as usize]);
     }
-    t.piece(name).piece(b"null")
+    let named = text::piece(out, at, name);
+    text::piece(out, named, b"null")
 }
 
-fn last_tick(t: Text, name: &[u8], last: LastAgreed) -> Text
-    ensures { λ r. ⌜ r ≡ put (put t (now (name .entry))) (tickText last) ⌝ }
+fn last_tick(out: &mut [u8; text::LIMIT], at: usize, name: &[u8], last: LastAgreed) -> usize
+    ensures { λ r. ⌜ page (now (out .exit)) r
+        ≡ put (put (page (now (out .entry)) at) (now (name .entry))) (tickText last) ⌝ }
     ensures { λ _. ⌜ length (tickText last) ≤ 20 ⌝ }
 {
     match last {
-        LastAgreed::At(tick) => number(t, name, tick),
-        LastAgreed::Never => t.piece(name).piece(b"null"),
+        LastAgreed::At(tick) => number(out, at, name, tick),
+        LastAgreed::Never => {
+            let named = text::piece(out, at, name);
+            text::piece(out, named, b"null")
+        }
     }
 }
 
 // A comma goes before each element but the first.
-fn comma(t: Text, position: u8) -> Text
-    ensures { λ r. ⌜ r ≡ put t (comma position) ⌝ }
+fn comma(out: &mut [u8; text::LIMIT], at: usize, position: u8) -> usize
+    ensures { λ r. ⌜ page (now (out .exit)) r ≡ put (page (now (out .entry)) at) (comma position) ⌝ }
 {
     if position == 0 {
-        return t;
+        return text::piece(out, at, b"");
     }
-    t.piece(b",")
+    text::piece(out, at, b",")
 }
 
-fn seat_list(mut t: Text, set: PeerSet) -> Text
-    ensures { λ r. ⌜ r ≡ put t (seatList (set .0) seats) ⌝ }
+fn seat_list(out: &mut [u8; text::LIMIT], at: usize, name: &[u8], set: PeerSet) -> usize
+    ensures { λ r. ⌜ page (now (out .exit)) r
+        ≡ put (put (page (now (out .entry)) at) (now (name .entry))) (seatList (set .0) seats) ⌝ }
 {
+    let mut end = text::piece(out, at, name);
     let mut position: u8 = 0;
     for seat in 0..peer::SEATS {
         if set.contains(seat) {
-            t = comma(t, position).decimal(seat as u64);
+            let next = comma(out, end, position);
+            end = text::decimal(out, next, seat as u64);
             position += 1;
         }
     }
-    t
+    end
 }
 
 impl DesyncReport {
-    fn peer(self, t: Text, seat: u8) -> Text
+    fn peer(self, out: &mut [u8; text::LIMIT], at: usize, seat: u8) -> usize
         requires { ⌜ seat < seats ⌝ }
-        ensures { λ r. ⌜ r ≡ put t (peerText self seat) ⌝ }
+        ensures { λ r. ⌜ page (now (out .exit)) r ≡ put (page (now (out .entry)) at) (peerText self seat) ⌝ }
     {
         let states = self.states;
         let inputs = self.inputs;
-        let named = number(comma(t, seat), b"{\"seat\":", seat as u64);
+        let next = comma(out, at, seat);
+        let named = number(out, next, b"{\"seat\":", seat as u64);
         let stated = seat_digest(
+            out,
             named,
             b",\"state_digest\":",
             PeerSet(self.states_in),
             states,
             seat,
         );
-        seat_digest(
+        let pressed = seat_digest(
+            out,
             stated,
             b",\"input_digest\":",
             PeerSet(self.inputs_in),
             inputs,
             seat,
-        ).piece(b"}")
+        );
+        text::piece(out, pressed, b"}")
     }
 
     // How many seats the list of them has: those of the circle that there are.
@@ -365,79 +415,103 @@ impl DesyncReport {
         peer::SEATS
     }
 
-    fn peers(self, mut t: Text) -> Text
-        ensures { λ r. ⌜ r ≡ put t (peerList self (min (self .«peer_count») seats)) ⌝ }
+    fn peers(self, out: &mut [u8; text::LIMIT], at: usize, name: &[u8]) -> usize
+        ensures { λ r. ⌜ page (now (out .exit)) r
+            ≡ put (put (page (now (out .entry)) at) (now (name .entry)))
+            (peerList self (min (self .«peer_count») seats)) ⌝ }
     {
+        let mut end = text::piece(out, at, name);
         for seat in 0..self.listed() {
-            t = self.peer(t, seat);
+            end = self.peer(out, end, seat);
         }
-        t
+        end
     }
 
-    fn head(self, t: Text) -> Text
-        ensures { λ r. ⌜ r ≡ put t (headText self) ⌝ }
+    fn head(self, out: &mut [u8; text::LIMIT], at: usize) -> usize
+        ensures { λ r. ⌜ page (now (out .exit)) r ≡ put (page (now (out .entry)) at) (headText self) ⌝ }
     {
-        let tick = number(t, b"{\"schema_version\":1,\"tick\":", self.tick);
-        let local = number(tick, b",\"local\":", self.local as u64);
-        number(local, b",\"peer_count\":", self.peer_count as u64)
+        let tick = number(out, at, b"{\"schema_version\":1,\"tick\":", self.tick);
+        let local = number(out, tick, b",\"local\":", self.local as u64);
+        number(out, local, b",\"peer_count\":", self.peer_count as u64)
     }
 
-    fn verdict(self, t: Text) -> Text
-        ensures { λ r. ⌜ r ≡ put t (verdictText self) ⌝ }
+    fn verdict(self, out: &mut [u8; text::LIMIT], at: usize) -> usize
+        ensures { λ r. ⌜ page (now (out .exit)) r ≡ put (page (now (out .entry)) at) (verdictText self) ⌝ }
     {
-        let agree = flag(t, b",\"inputs_agree\":", self.inputs_agree());
-        flag(agree, b",\"witnessed\":", self.witnessed())
+        let agree = flag(out, at, b",\"inputs_agree\":", self.inputs_agree());
+        flag(out, agree, b",\"witnessed\":", self.witnessed())
     }
 
-    fn own(self, t: Text) -> Text
-        ensures { λ r. ⌜ r ≡ put t (ownText self) ⌝ }
+    fn own(self, out: &mut [u8; text::LIMIT], at: usize) -> usize
+        ensures { λ r. ⌜ page (now (out .exit)) r ≡ put (page (now (out .entry)) at) (ownText self) ⌝ }
         ensures { λ _. ⌜ length (tickText (self .«last_agreed»)) ≤ 20 ⌝ }
     {
         let last = self.last_agreed;
-        let state = digest(t, b",\"local_state_digest\":", self.local_state);
-        let input = digest(state, b",\"local_input_digest\":", self.local_input);
-        last_tick(input, b",\"last_agreed_tick\":", last)
+        let state = digest(out, at, b",\"local_state_digest\":", self.local_state);
+        let input = digest(out, state, b",\"local_input_digest\":", self.local_input);
+        last_tick(out, input, b",\"last_agreed_tick\":", last)
     }
 
-    fn lists(self, t: Text) -> Text
-        ensures { λ r. ⌜ r ≡ put t (listsText self) ⌝ }
+    fn lists(self, out: &mut [u8; text::LIMIT], at: usize) -> usize
+        ensures { λ r. ⌜ page (now (out .exit)) r ≡ put (page (now (out .entry)) at) (listsText self) ⌝ }
     {
-        let dissent = seat_list(t.piece(b",\"dissenters\":["), self.dissenters());
-        self.peers(dissent.piece(b"],\"peers\":["))
+        let dissent = seat_list(out, at, b",\"dissenters\":[", self.dissenters());
+        self.peers(out, dissent, b"],\"peers\":[")
     }
 
-    fn agreed(self, t: Text) -> Text
-        ensures { λ r. ⌜ r ≡ put t (agreedText self) ⌝ }
+    fn agreed(self, out: &mut [u8; text::LIMIT], at: usize) -> usize
+        ensures { λ r. ⌜ page (now (out .exit)) r ≡ put (page (now (out .entry)) at) (agreedText self) ⌝ }
     {
-        let agreement = digest(t, b"],\"agreement_digest\":", self.agreement);
-        let content = digest(agreement, b",\"content\":", self.content);
-        let rules = digest(content, b",\"rules\":", self.rules);
-        number(rules, b",\"seed\":", self.seed)
+        let agreement = digest(out, at, b"],\"agreement_digest\":", self.agreement);
+        let content = digest(out, agreement, b",\"content\":", self.content);
+        let rules = digest(out, content, b",\"rules\":", self.rules);
+        number(out, rules, b",\"seed\":", self.seed)
     }
 
-    pub fn json(self) -> Text
-        ensures { λ r. ⌜ r ≡ put freshText (reportText self) ⌝ }
-        ensures { λ _. ⌜ length (reportText self) ≤ 1331 ⌝ }
+    // The report's text at the front of a lent buffer, and its length.
+    pub fn json(self, out: &mut [u8; text::LIMIT]) -> usize
+        ensures { λ r. ⌜ page (now (out .exit)) r ≡ put (page (now (out .entry)) 0) (reportText self) ⌝ }
+        ensures { λ _. ⌜ length (reportText self) ≤ reportMost ⌝ }
     {
-        let front = self.verdict(self.head(Text::new()));
-        counters(self.agreed(self.lists(self.own(front))), self.stats)
+        let head = self.head(out, 0);
+        let verdict = self.verdict(out, head);
+        let own = self.own(out, verdict);
+        let lists = self.lists(out, own);
+        let agreed = self.agreed(out, lists);
+        counters(out, agreed, self.stats)
     }
 }
 
-fn counters(mut t: Text, s: SessionStats) -> Text
-    ensures { λ r. ⌜ r ≡ put t (statsText s) ⌝ }
+fn counters(out: &mut [u8; text::LIMIT], at: usize, s: SessionStats) -> usize
+    ensures { λ r. ⌜ page (now (out .exit)) r ≡ put (page (now (out .entry)) at) (statsText s) ⌝ }
 {
-    t = number(
-        t,
+    let mut end = number(
+        out,
+        at,
         b",\"stats\":{\"datagrams_refused\":",
         s.datagrams_refused,
     );
-    t = number(t, b",\"frames_repeated\":", s.frames_repeated);
-    t = number(t, b",\"frames_contradicted\":", s.frames_contradicted);
-    t = number(t, b",\"frames_out_of_window\":", s.frames_out_of_window);
-    t = number(t, b",\"digests_contradicted\":", s.digests_contradicted);
-    t = number(t, b",\"stall_pumps\":", s.stall_pumps);
-    t.piece(b"}}")
+    end = number(out, end, b",\"frames_repeated\":", s.frames_repeated);
+    end = number(
+        out,
+        end,
+        b",\"frames_contradicted\":",
+        s.frames_contradicted,
+    );
+    end = number(
+        out,
+        end,
+        b",\"frames_out_of_window\":",
+        s.frames_out_of_window,
+    );
+    end = number(
+        out,
+        end,
+        b",\"digests_contradicted\":",
+        s.digests_contradicted,
+    );
+    end = number(out, end, b",\"stall_pumps\":", s.stall_pumps);
+    text::piece(out, end, b"}}")
 }
 
 // ---- what a session is asked
@@ -488,26 +562,51 @@ fn seek(params: SessionParams, standing: Standing) -> Sought
 
 fn report_for(
     params: SessionParams,
-    prints: Fingerprints,
+    held: &[bool; fingerprint::CELLS],
+    printed: &[u64; fingerprint::CELLS],
+    states: &[u64; fingerprint::CELLS],
+    inputs: &[u64; fingerprint::CELLS],
     stats: SessionStats,
     answer: Sought,
 ) -> DesyncReport
-    ensures { λ r. ⌜ r ≡ reportFor params prints stats answer ⌝ }
+    ensures { λ r. ⌜ r ≡ reportFor params
+        (printsOf (now (held .entry)) (now (printed .entry)) (now (states .entry)) (now (inputs .entry)))
+        stats answer ⌝ }
 {
     match answer {
         Sought::BadState => blank(),
         Sought::NoDesync => blank(),
-        Sought::Desynced { tick } => report_at(params, prints, stats, tick),
+        Sought::Desynced { tick } => report_at(params, held, printed, states, inputs, stats, tick),
     }
+}
+
+// The report of a session whose arrays are lent: its window says nothing of it.
+pub fn desync_report_in(
+    h: Head,
+    held: &[bool; fingerprint::CELLS],
+    printed: &[u64; fingerprint::CELLS],
+    states: &[u64; fingerprint::CELLS],
+    inputs: &[u64; fingerprint::CELLS],
+) -> Reported
+    ensures { λ r. ⌜ ((w : Window′.Window) → r ≡ desyncReport (sessionOf h w
+        (printsOf (now (held .entry)) (now (printed .entry)) (now (states .entry)) (now (inputs .entry))))) ⌝ }
+{
+    let standing = h.outcome;
+    let answer = seek(h.params, standing);
+    let report = report_for(h.params, held, printed, states, inputs, h.stats, answer);
+    Reported { answer, report }
 }
 
 pub fn desync_report(s: Session) -> Reported
     ensures { λ r. ⌜ r ≡ desyncReport s ⌝ }
 {
-    let standing = s.outcome;
-    let answer = seek(s.params, standing);
-    let report = report_for(s.params, s.prints, s.stats, answer);
-    Reported { answer, report }
+    let head = s.head;
+    let prints = s.prints;
+    let held = prints.held;
+    let ticks = prints.ticks;
+    let states = prints.states;
+    let inputs = prints.inputs;
+    desync_report_in(head, &held, &ticks, &states, &inputs)
 }
 
 fn written(copied: Copied) -> WriteReport
@@ -519,6 +618,7 @@ fn written(copied: Copied) -> WriteReport
     }
 }
 
+// The text goes into a buffer of its own first: only then its length is known, and without room nothing is written.
 fn write_found(found: Reported, out: &mut [u8]) -> WriteReport
     ensures { λ r. ⌜ WritesAs found (now (out .entry)) r (now (out .exit)) ⌝ }
 {
@@ -526,11 +626,31 @@ fn write_found(found: Reported, out: &mut [u8]) -> WriteReport
     match answer {
         Sought::BadState => WriteReport::BadState,
         Sought::NoDesync => WriteReport::NoDesync,
-        Sought::Desynced { tick: _ } => written(found.report.json().copy_out(out)),
+        Sought::Desynced { tick: _ } => {
+            let mut bytes = [0u8; text::LIMIT];
+            let n = found.report.json(&mut bytes);
+            written(text::copy_out(&bytes, n, out))
+        }
     }
 }
 
 // The text at the front of `out`, if there is a desync and room for all of it.
+pub fn write_report_in(
+    h: Head,
+    held: &[bool; fingerprint::CELLS],
+    printed: &[u64; fingerprint::CELLS],
+    states: &[u64; fingerprint::CELLS],
+    inputs: &[u64; fingerprint::CELLS],
+    out: &mut [u8],
+) -> WriteReport
+    ensures { λ r. ⌜ ((w : Window′.Window) → Writes (sessionOf h w
+        (printsOf (now (held .entry)) (now (printed .entry)) (now (states .entry)) (now (inputs .entry))))
+        (now (out .entry)) r (now (out .exit))) ⌝ }
+{
+    let found = desync_report_in(h, held, printed, states, inputs);
+    write_found(found, out)
+}
+
 pub fn write_report(s: Session, out: &mut [u8]) -> WriteReport
     ensures { λ r. ⌜ Writes s (now (out .entry)) r (now (out .exit)) ⌝ }
 {

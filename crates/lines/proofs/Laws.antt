@@ -1,7 +1,7 @@
 -- Laws of the lines: a step's fields row by row.
 -- Assumes nothing.
 use Prim.Native.Nat.{ℕ, zero, suc, _+_, _-_, _≤_, _<_, min}
-use mathlib.Core.Path.{_≡_, refl, sym, _∙_}
+use mathlib.Core.Path.{_≡_, refl}
 use mathlib.Core.Bool.{Bool, true, false}
 use mathlib.Core.List.{List, [], _++_}
 use native.Mathlib.Numerals.{add-one}
@@ -9,9 +9,8 @@ use native.Mathlib.Omega.{arith}
 use lib.ListN.{length, drop, getD, drop-of-length-le}
 use lib.Seq.{drop-cons}
 use Rattle.logic.proofs.Cases.{caseLt}
-use Rattle.text.proofs.Writing.{join-length}
+use Rattle.text.proofs.Writing.{join-length, put-one}
 use Rattle.text.proofs.Decimals.{decimal-20}
-use Rattle.text.specs.declared.Text.{Text}
 use Rattle.lines.specs.Lines.{Says, numbered, flagText, fieldText, fieldTexts}
 
 fields-nil : (count width : ℕ) → fieldTexts count width [] ≡ []
@@ -46,6 +45,6 @@ pub numbered-length : (name : List ℕ) (n : ℕ) → length name ≤ 16 → n <
 unfolding numbered
 numbered-length name n h l = rw join-length (omega (arith, decimal-20 n (omega arith)))
 
--- the promise fixes the text: two that say a line are equal
-pub says-one : {line : List ℕ} {t u : Text} → Says line t → Says line u → t ≡ u
-says-one x y = x .wrote ∙ sym (y .wrote)
+-- the promise fixes the length and every lent byte: two answers that meet it are equal
+pub says-one : {line before a b : List ℕ} {m n : ℕ} → Says line before a m → Says line before b n → (m ≡ n) × (a ≡ b)
+says-one x y = put-one (x .said) (y .said)

@@ -1,13 +1,12 @@
 -- Document 01, "The script runner `circle`", "Lines": the line of each answer. 20 is no answer that a script gets, as
 -- only a good open makes a session; its lines are the call's name and the number. Assumes nothing.
-use Prim.Native.Nat.{ℕ, zero, suc, _≤_}
+use Prim.Native.Nat.{ℕ, zero, suc, _+_, _≤_}
 use mathlib.Core.Path.{_≡_}
 use mathlib.Core.Bool.{Bool, true, false}
 use mathlib.Core.List.{List, [], _∷_, _++_}
 use lib.ListN.{length, take}
 use Rattle.text.specs.Ascii.{ascii}
-use Rattle.text.specs.Text.{freshText, put, join}
-use Rattle.text.specs.declared.Text.{Text}
+use Rattle.text.specs.Text.{page, put, join}
 use Rattle.text.specs.Decimal.{decimal}
 use Rattle.text.specs.Hex.{hexBytes}
 use Rattle.params.specs.Params.{validityNo}
@@ -28,20 +27,20 @@ use Rattle.session.specs.declared.Leave.the-variants as Leave′
 use Rattle.deliver.specs.Numbers.{deliveryNo}
 use Rattle.deliver.specs.declared.Delivery.{Delivery}
 use Rattle.desync.specs.Numbers.{soughtNo}
-use Rattle.desync.specs.Json.{reportText}
+use Rattle.desync.specs.Json.{reportMost, reportText}
 use Rattle.desync.specs.declared.Sought.{Sought}
 use Rattle.desync.specs.declared.Sought.the-variants as Sought′
 use Rattle.desync.specs.declared.DesyncReport.{DesyncReport}
 use Rattle.pump.specs.declared.Outbound.{Outbound}
 use Rattle.pump.specs.declared.Outbound.the-variants as Outbound′
 
--- no line is longer; beside it a text has room for what the trace form adds
+-- no line is longer than a report's; beside it a text has room for what the trace form adds
 abbrev pub lineLimit : ℕ
-lineLimit = 1600
+lineLimit = reportMost + 1
 
--- a text that says the line, whole
-pub record Says (line : List ℕ) (t : Text) : Type 0 where
-  pub wrote : t ≡ put freshText line
+-- the line, whole, at the front of the buffer, and the bytes past it as they were
+pub record Says (line before after : List ℕ) (n : ℕ) : Type 0 where
+  pub said : page after n ≡ put (page before 0) line
   pub fits : length line ≤ lineLimit
 
 -- a name and a number

@@ -1,9 +1,11 @@
-// The lines that the script runner prints: one for each answer, and what the trace form adds. Nothing here reads a
-// session.
-ghost use Prim.Native.Nat.{_≤_};
+// The lines that the script runner prints: one for each answer, and what the trace form adds. Each goes to the front of
+// a lent buffer, and its length is given back. Nothing here reads a session.
+ghost use Prim.Native.Nat.{_≤_, _*_};
 ghost use mathlib.Core.Path.{_≡_};
 ghost use lib.ListN.{length};
-ghost use Rattle.text.specs.Text.{put};
+ghost use Rattle.peer.specs.Seats.{seats};
+ghost use Rattle.text.specs.Text.{page, put};
+ghost use Rattle.text.specs.Decimal.{decimal};
 ghost use Rattle.lines.specs.Lines.{Says, numbered, flagText, outcomeText, endedLine, openLine};
 ghost use Rattle.lines.specs.Lines.{acceptedText, submitLine, deliverLine, fieldText, fieldTexts};
 ghost use Rattle.lines.specs.Lines.{stepLine, stalledLine, advanceLine, commitLine, leaveLine};
@@ -23,220 +25,252 @@ use session::Leave;
 use session::Outcome;
 use session::Step;
 use session::Submit;
-use text::Text;
 use wire::Body;
 
-// A name and a number.
-fn numbered(name: &[u8], n: u8) -> Text
-    requires { ⌜ length (now name) ≤ 16 ⌝ }
-    ensures { λ r. ⌜ Says (numbered (now (name .entry)) n) r ⌝ }
+// A word, with its blanks, and a number.
+fn worded(out: &mut [u8; text::LIMIT], at: usize, word: &[u8], n: u64) -> usize
+    ensures { λ r. ⌜ page (now (out .exit)) r
+        ≡ put (put (page (now (out .entry)) at) (now (word .entry))) (decimal n) ⌝ }
 {
-    Text::new().piece(name).decimal(long(n)).byte(b'\n')
+    let end = text::piece(out, at, word);
+    text::decimal(out, end, n)
 }
 
-pub fn flag(t: Text, on: bool) -> Text
-    ensures { λ r. ⌜ r ≡ put t (flagText on) ⌝ }
+// A name and a number.
+fn numbered(out: &mut [u8; text::LIMIT], name: &[u8], n: u8) -> usize
+    requires { ⌜ length (now name) ≤ 16 ⌝ }
+    ensures { λ r. ⌜ Says (numbered (now (name .entry)) n) (now (out .entry)) (now (out .exit)) r ⌝ }
+{
+    let end = worded(out, 0, name, long(n));
+    text::byte(out, end, b'\n')
+}
+
+pub fn flag(out: &mut [u8; text::LIMIT], at: usize, on: bool) -> usize
+    ensures { λ r. ⌜ page (now (out .exit)) r ≡ put (page (now (out .entry)) at) (flagText on) ⌝ }
 {
     if on {
-        return t.byte(b'1');
+        return text::byte(out, at, b'1');
     }
-    t.byte(b'0')
+    text::byte(out, at, b'0')
 }
 
 // Why, seat and tick.
-pub fn outcome(t: Text, o: Outcome) -> Text
-    ensures { λ r. ⌜ r ≡ put t (outcomeText o) ⌝ }
+pub fn outcome(out: &mut [u8; text::LIMIT], at: usize, o: Outcome) -> usize
+    ensures { λ r. ⌜ page (now (out .exit)) r ≡ put (page (now (out .entry)) at) (outcomeText o) ⌝ }
     ensures { λ _. ⌜ length (outcomeText o) ≤ 64 ⌝ }
 {
     match o {
-        Outcome::Desynced { tick } => t.piece(b"1 - ").decimal(tick),
+        Outcome::Desynced { tick } => worded(out, at, b"1 - ", tick),
         Outcome::PeerLeft { peer, tick } => {
-            t.piece(b"2 ").decimal(long(peer)).byte(b' ').decimal(tick)
+            let seat = worded(out, at, b"2 ", long(peer));
+            worded(out, seat, b" ", tick)
         }
-        Outcome::LeftLocally { tick } => t.piece(b"3 - ").decimal(tick),
+        Outcome::LeftLocally { tick } => worded(out, at, b"3 - ", tick),
     }
 }
 
-fn ended(o: Outcome) -> Text
-    ensures { λ r. ⌜ Says (endedLine o) r ⌝ }
+fn ended(out: &mut [u8; text::LIMIT], o: Outcome) -> usize
+    ensures { λ r. ⌜ Says (endedLine o) (now (out .entry)) (now (out .exit)) r ⌝ }
 {
-    outcome(Text::new().piece(b"ended "), o).byte(b'\n')
+    let named = text::piece(out, 0, b"ended ");
+    let end = outcome(out, named, o);
+    text::byte(out, end, b'\n')
 }
 
-pub fn open_line(answer: Validity) -> Text
-    ensures { λ r. ⌜ Says (openLine answer) r ⌝ }
+pub fn open_line(out: &mut [u8; text::LIMIT], answer: Validity) -> usize
+    ensures { λ r. ⌜ Says (openLine answer) (now (out .entry)) (now (out .exit)) r ⌝ }
 {
-    numbered(b"open ", answer.number())
+    numbered(out, b"open ", answer.number())
 }
 
 // The tick of an accepted press.
-fn accepted(t: Text, answer: Submit) -> Text
-    ensures { λ r. ⌜ r ≡ put t (acceptedText answer) ⌝ }
+fn accepted(out: &mut [u8; text::LIMIT], at: usize, answer: Submit) -> usize
+    ensures { λ r. ⌜ page (now (out .exit)) r ≡ put (page (now (out .entry)) at) (acceptedText answer) ⌝ }
     ensures { λ _. ⌜ length (acceptedText answer) ≤ 21 ⌝ }
 {
     match answer {
-        Submit::Accepted(tick) => t.byte(b' ').decimal(tick),
-        Submit::Ended(_) => t,
-        Submit::BadState => t,
-        Submit::WrongWidth { saw: _, agreed: _ } => t,
+        Submit::Accepted(tick) => worded(out, at, b" ", tick),
+        Submit::Ended(_) => text::piece(out, at, b""),
+        Submit::BadState => text::piece(out, at, b""),
+        Submit::WrongWidth { saw: _, agreed: _ } => text::piece(out, at, b""),
         Submit::WindowFull {
             tick: _,
             pending: _,
-        } => t,
+        } => text::piece(out, at, b""),
     }
 }
 
-pub fn submit_line(answer: Submit) -> Text
-    ensures { λ r. ⌜ Says (submitLine answer) r ⌝ }
+pub fn submit_line(out: &mut [u8; text::LIMIT], answer: Submit) -> usize
+    ensures { λ r. ⌜ Says (submitLine answer) (now (out .entry)) (now (out .exit)) r ⌝ }
 {
-    let number = Text::new().piece(b"submit ").decimal(long(answer.number()));
-    accepted(number, answer).byte(b'\n')
+    let number = worded(out, 0, b"submit ", long(answer.number()));
+    let end = accepted(out, number, answer);
+    text::byte(out, end, b'\n')
 }
 
-pub fn deliver_line(answer: Delivery) -> Text
-    ensures { λ r. ⌜ Says (deliverLine answer) r ⌝ }
+pub fn deliver_line(out: &mut [u8; text::LIMIT], answer: Delivery) -> usize
+    ensures { λ r. ⌜ Says (deliverLine answer) (now (out .entry)) (now (out .exit)) r ⌝ }
 {
-    numbered(b"deliver ", answer.number())
+    numbered(out, b"deliver ", answer.number())
 }
 
-pub fn commit_line(answer: Commit) -> Text
-    ensures { λ r. ⌜ Says (commitLine answer) r ⌝ }
+pub fn commit_line(out: &mut [u8; text::LIMIT], answer: Commit) -> usize
+    ensures { λ r. ⌜ Says (commitLine answer) (now (out .entry)) (now (out .exit)) r ⌝ }
 {
-    numbered(b"commit ", answer.number())
+    numbered(out, b"commit ", answer.number())
 }
 
-pub fn leave_line(answer: Leave) -> Text
-    ensures { λ r. ⌜ Says (leaveLine answer) r ⌝ }
+pub fn leave_line(out: &mut [u8; text::LIMIT], answer: Leave) -> usize
+    ensures { λ r. ⌜ Says (leaveLine answer) (now (out .entry)) (now (out .exit)) r ⌝ }
 {
     match answer {
-        Leave::Ended(o) => ended(o),
-        Leave::BadState => numbered(b"leave ", 20),
+        Leave::Ended(o) => ended(out, o),
+        Leave::BadState => numbered(out, b"leave ", 20),
     }
 }
 
-pub fn bad_line() -> Text
-    ensures { λ r. ⌜ Says badLine r ⌝ }
+pub fn bad_line(out: &mut [u8; text::LIMIT]) -> usize
+    ensures { λ r. ⌜ Says badLine (now (out .entry)) (now (out .exit)) r ⌝ }
 {
-    Text::new().piece(b"bad\n")
+    text::piece(out, 0, b"bad\n")
 }
 
-pub fn none_line() -> Text
-    ensures { λ r. ⌜ Says noneLine r ⌝ }
+pub fn none_line(out: &mut [u8; text::LIMIT]) -> usize
+    ensures { λ r. ⌜ Says noneLine (now (out .entry)) (now (out .exit)) r ⌝ }
 {
-    Text::new().piece(b"none\n")
+    text::piece(out, 0, b"none\n")
 }
 
-pub fn cut_line() -> Text
-    ensures { λ r. ⌜ Says cutLine r ⌝ }
+pub fn cut_line(out: &mut [u8; text::LIMIT]) -> usize
+    ensures { λ r. ⌜ Says cutLine (now (out .entry)) (now (out .exit)) r ⌝ }
 {
-    Text::new().piece(b"cut\n")
+    text::piece(out, 0, b"cut\n")
 }
 
 // The text of a report, or why there is none.
-pub fn report_line(answer: Sought, report: DesyncReport) -> Text
-    ensures { λ r. ⌜ Says (reportLine answer report) r ⌝ }
+pub fn report_line(out: &mut [u8; text::LIMIT], answer: Sought, report: DesyncReport) -> usize
+    ensures { λ r. ⌜ Says (reportLine answer report) (now (out .entry)) (now (out .exit)) r ⌝ }
 {
     match answer {
-        Sought::BadState => numbered(b"report ", 20),
-        Sought::NoDesync => numbered(b"report ", 61),
-        Sought::Desynced { tick: _ } => report.json().byte(b'\n'),
+        Sought::BadState => numbered(out, b"report ", 20),
+        Sought::NoDesync => numbered(out, b"report ", 61),
+        Sought::Desynced { tick: _ } => {
+            let end = report.json(out);
+            text::byte(out, end, b'\n')
+        }
     }
 }
 
 // Kind, tick and count.
-fn body(t: Text, body: Body) -> Text
-    ensures { λ r. ⌜ r ≡ put t (bodyText body) ⌝ }
+fn body(out: &mut [u8; text::LIMIT], at: usize, body: Body) -> usize
+    ensures { λ r. ⌜ page (now (out .exit)) r ≡ put (page (now (out .entry)) at) (bodyText body) ⌝ }
     ensures { λ _. ⌜ length (bodyText body) ≤ 64 ⌝ }
 {
     match body {
-        Body::Hello(_) => t.piece(b"3 0 0"),
+        Body::Hello(_) => text::piece(out, at, b"3 0 0"),
         Body::Inputs(b) => {
-            t.piece(b"4 ")
-                .decimal(b.first)
-                .byte(b' ')
-                .decimal(long(b.count))
+            let first = worded(out, at, b"4 ", b.first);
+            worded(out, first, b" ", long(b.count))
         }
-        Body::Digest(b) => t.piece(b"5 ").decimal(b.tick).piece(b" 0"),
-        Body::Bye(b) => t.piece(b"6 ").decimal(b.tick).piece(b" 0"),
-        Body::Other(_) => t.piece(b"7 0 0"),
+        Body::Digest(b) => {
+            let end = worded(out, at, b"5 ", b.tick);
+            text::piece(out, end, b" 0")
+        }
+        Body::Bye(b) => {
+            let end = worded(out, at, b"6 ", b.tick);
+            text::piece(out, end, b" 0")
+        }
+        Body::Other(_) => text::piece(out, at, b"7 0 0"),
     }
 }
 
-pub fn send_line(answer: Outbound) -> Text
-    ensures { λ r. ⌜ Says (sendLine answer) r ⌝ }
+pub fn send_line(out: &mut [u8; text::LIMIT], answer: Outbound) -> usize
+    ensures { λ r. ⌜ Says (sendLine answer) (now (out .entry)) (now (out .exit)) r ⌝ }
     ensures { λ _. ⌜ length (sendLine answer) ≤ 100 ⌝ }
 {
     match answer {
         Outbound::Send { peer, message } => {
             let b = message.body;
-            body(
-                Text::new().piece(b"send ").decimal(long(peer)).byte(b' '),
-                b,
-            ).byte(b'\n')
+            let named = worded(out, 0, b"send ", long(peer));
+            let spaced = text::byte(out, named, b' ');
+            let end = body(out, spaced, b);
+            text::byte(out, end, b'\n')
         }
-        Outbound::Nothing => numbered(b"send ", 71),
-        Outbound::BadState => numbered(b"send ", 20),
+        Outbound::Nothing => numbered(out, b"send ", 71),
+        Outbound::BadState => numbered(out, b"send ", 20),
     }
 }
 
 // The first width bytes of a seat's row.
-fn field(t: Text, row: [u8; 16], width: u8) -> Text
-    ensures { λ r. ⌜ r ≡ put t (fieldText width row) ⌝ }
+fn field(out: &mut [u8; text::LIMIT], at: usize, row: [u8; 16], width: u8) -> usize
+    ensures { λ r. ⌜ page (now (out .exit)) r ≡ put (page (now (out .entry)) at) (fieldText width row) ⌝ }
     ensures { λ _. ⌜ length (fieldText width row) ≤ 33 ⌝ }
 {
     let n = least(wide(width), 16);
-    t.byte(b' ').hex_bytes(&row[..n])
+    let spaced = text::byte(out, at, b' ');
+    text::hex_bytes(out, spaced, &row[..n])
 }
 
-fn fields(t: Text, rows: [[u8; 16]; rows::ROWS], count: u8, width: u8) -> Text
-    ensures { λ r. ⌜ r ≡ put t (fieldTexts count width rows) ⌝ }
-    ensures { λ _. ⌜ length (fieldTexts count width rows) ≤ 264 ⌝ }
+// Whether a digest is due, and the fields.
+fn fields(
+    out: &mut [u8; text::LIMIT],
+    at: usize,
+    due: bool,
+    rows: [[u8; 16]; rows::ROWS],
+    count: u8,
+    width: u8,
+) -> usize
+    ensures { λ r. ⌜ page (now (out .exit)) r
+        ≡ put (put (page (now (out .entry)) at) (flagText due)) (fieldTexts count width rows) ⌝ }
+    ensures { λ _. ⌜ length (fieldTexts count width rows) ≤ 33 * seats ⌝ }
 {
     let n = least(wide(count), rows::ROWS);
-    let mut out = t;
+    let mut end = flag(out, at, due);
     let mut k: usize = 0;
     while k < n {
-        out = field(out, rows[k], width);
+        end = field(out, end, rows[k], width);
         k += 1;
     }
-    out
+    end
 }
 
-fn step_line(step: Step, frames: Frames) -> Text
-    ensures { λ r. ⌜ Says (stepLine step (frames .rows)) r ⌝ }
+fn step_line(out: &mut [u8; text::LIMIT], step: Step, frames: Frames) -> usize
+    ensures { λ r. ⌜ Says (stepLine step (frames .rows)) (now (out .entry)) (now (out .exit)) r ⌝ }
 {
-    let head = flag(
-        Text::new().piece(b"step ").decimal(step.tick).byte(b' '),
+    let tick = worded(out, 0, b"step ", step.tick);
+    let spaced = text::byte(out, tick, b' ');
+    let end = fields(
+        out,
+        spaced,
         step.due,
+        rows::rows_in(frames),
+        step.count,
+        step.width,
     );
-    fields(head, rows::rows_in(frames), step.count, step.width).byte(b'\n')
+    text::byte(out, end, b'\n')
 }
 
-fn stalled_line(tick: u64, waiting: peer::Bits, pumps: u64) -> Text
-    ensures { λ r. ⌜ Says (stalledLine tick waiting pumps) r ⌝ }
+fn stalled_line(out: &mut [u8; text::LIMIT], tick: u64, waiting: peer::Bits, pumps: u64) -> usize
+    ensures { λ r. ⌜ Says (stalledLine tick waiting pumps) (now (out .entry)) (now (out .exit)) r ⌝ }
 {
-    Text::new()
-        .piece(b"stalled ")
-        .decimal(tick)
-        .byte(b' ')
-        .decimal(waiting as u64)
-        .byte(b' ')
-        .decimal(pumps)
-        .byte(b'\n')
+    let ticked = worded(out, 0, b"stalled ", tick);
+    let missed = worded(out, ticked, b" ", waiting as u64);
+    let pumped = worded(out, missed, b" ", pumps);
+    text::byte(out, pumped, b'\n')
 }
 
-pub fn advance_line(answer: Advance, frames: Frames) -> Text
-    ensures { λ r. ⌜ Says (advanceLine answer (frames .rows)) r ⌝ }
+pub fn advance_line(out: &mut [u8; text::LIMIT], answer: Advance, frames: Frames) -> usize
+    ensures { λ r. ⌜ Says (advanceLine answer (frames .rows)) (now (out .entry)) (now (out .exit)) r ⌝ }
 {
     match answer {
-        Advance::Step(step) => step_line(step, frames),
-        Advance::Waiting => Text::new().piece(b"waiting\n"),
+        Advance::Step(step) => step_line(out, step, frames),
+        Advance::Waiting => text::piece(out, 0, b"waiting\n"),
         Advance::Stalled {
             tick,
             waiting,
             pumps,
-        } => stalled_line(tick, waiting, pumps),
-        Advance::Ended(o) => ended(o),
-        Advance::BadState => numbered(b"advance ", 20),
+        } => stalled_line(out, tick, waiting, pumps),
+        Advance::Ended(o) => ended(out, o),
+        Advance::BadState => numbered(out, b"advance ", 20),
     }
 }

@@ -1,13 +1,13 @@
 -- What a turn of each loop does.
 -- Assumes nothing.
 use Prim.Native.Nat.{ℕ, zero, suc, _+_, _-_, _/_, _%_, _^_, _≤_, _<_}
-use mathlib.Core.Path.{_≡_, refl, ap}
+use mathlib.Core.Path.{_≡_}
 use mathlib.Core.List.{List, [], _∷_, _++_, append-assoc, append-nil}
 use native.Mathlib.Nat.{pow-suc, zero-add}
 use native.Mathlib.Numerals.{add-one}
 use native.Mathlib.Omega.{arith}
 use lib.ListN.{length, take, drop, set, getD, length-drop, length-set}
-use lib.Seq.{drop-cons, drop-set-lt, getD-set-same, take-suc, take-all, paste-suc}
+use lib.Seq.{drop-cons, drop-set-lt, getD-set-same, take-suc, take-all, paste, paste-suc}
 use Rattle.text.specs.Decimal.{decimal}
 use Rattle.text.specs.Hex.{hexDigit, hexDigits, hexBytes}
 use Rattle.text.proofs.Decimals.{decimal-small, decimal-more}
@@ -57,12 +57,11 @@ pub hex-bytes-more : (s : List ℕ) (i : ℕ) → i < length s
     → hexBytes (take (i + 1) s) ≡ hexBytes (take i s) ++ hexDigits 2 (getD s i 0)
 hex-bytes-more s i h = rw (add-one, take-suc s i 0 h, hex-bytes-append, hex-bytes-one)
 
+-- the next byte is pasted
+pub pasted-more : (d : List ℕ) (at : ℕ) (s : List ℕ) (i : ℕ) → at + i < length d → i < length s
+    → set (paste d at s i) (at + i) (getD s i 0) ≡ paste d at s (i + 1)
+pasted-more d at s i hd hs = rw add-one (paste-suc d at s i 0 hd hs)
+
 pub copy-step : (d s : List ℕ) (i : ℕ) → i < length d → i < length s
     → set (take i s ++ drop i d) i (getD s i 0) ≡ take (i + 1) s ++ drop (i + 1) d
-copy-step d s i hd hs = rw add-one (simp zero-add at (paste-suc d 0 s i 0 (rw zero-add hd) hs))
-
--- the first n bytes of a list are as many as it has of them
-pub take-length-take : (n : ℕ) (xs : List ℕ) → take (length (take n xs)) xs ≡ take n xs
-take-length-take zero xs = refl
-take-length-take (suc n) [] = refl
-take-length-take (suc n) (x ∷ xs) = ap (λ (ys : List ℕ). x ∷ ys) (take-length-take n xs)
+copy-step d s i hd hs = simp zero-add at (pasted-more d 0 s i (rw zero-add hd) hs)

@@ -1,42 +1,72 @@
 -- Laws of writing: pieces one after the other are their bytes joined; with room the text is the old one and the new
--- bytes, and in any case that, cut at the limit. Assumes nothing.
-use Prim.Native.Nat.{ℕ, _+_, _≤_, _<_}
-use mathlib.Core.Path.{_≡_, refl, sym, _∙_}
+-- bytes. Assumes nothing.
+use Prim.Native.Nat.{ℕ, zero, suc, _+_, _-_, _≤_, min}
+use mathlib.Core.Path.{_≡_, refl, sym, ap, _∙_}
 use mathlib.Core.List.{List, [], _∷_, _++_, append-assoc, append-nil}
-use native.Mathlib.Nat.{add-zero}
-use native.Mathlib.Numerals.{add-one}
 use native.Mathlib.Omega.{arith}
-use borrow.Author.Tests.{lt-ltb, le-ltb}
-use lib.ListN.{length, take, length-set, length-append, length-take, length-replicate}
-use lib.Seq.{take-suc-set, take-all, take-at}
-use Rattle.logic.proofs.Cases.{caseLt, if-true, if-false}
-use Rattle.text.specs.Text.{textLimit, textOf, freshText, putByte, put, join, puts, total}
-use Rattle.text.specs.declared.Text.{Text}
+use lib.ListN.{length, take, drop, length-append, length-take}
+use lib.Seq.{paste, take-all, take-append-add, take-append-seam, drop-append-add, drop-drop, length-paste-head}
+use lib.Seq.{length-take-le}
+use Rattle.logic.proofs.Fronts.{take-min}
+use Rattle.text.specs.Text.{textLimit, Page, page, written, putWithin, put, join, puts, total}
 
--- ---- pieces
+-- ---- within any limit
 
-pub put-nil : (t : Text) → put t [] ≡ t
-unfolding put
-put-nil t = refl
+cut-twice : (n : ℕ) (xs ys : List ℕ) → take n (xs ++ ys) ≡ take n (take n xs ++ ys)
+cut-twice zero xs ys = refl
+cut-twice (suc n) [] ys = refl
+cut-twice (suc n) (x ∷ xs) ys = ap (λ (zs : List ℕ). x ∷ zs) (cut-twice n xs ys)
 
-pub put-cons : (t : Text) (x : ℕ) (xs : List ℕ) → put t (x ∷ xs) ≡ put (putByte t x) xs
-unfolding put
-put-cons t x xs = refl
+-- a text written over a shorter one leaves nothing of it
+written-over : (text longer before : List ℕ) → length text ≤ length longer
+    → written longer (written text before .bytes) ≡ written longer before
+written-over text longer before h =
+    let past = length longer - length text in
+    let all : length longer ≡ length text + past = omega arith in
+    let same : drop (length longer) (text ++ drop (length text) before) ≡ drop (length longer) before =
+    rw (all, drop-append-add text _ past, drop-drop) in
+    ap (λ (rest : List ℕ). page (longer ++ rest) (length longer)) same
 
-pub put-two : (t : Text) (a b : ℕ) → put t (a ∷ b ∷ []) ≡ put (put t (a ∷ [])) (b ∷ [])
-unfolding put
-put-two t a b = refl
+module _ (limit : ℕ) (p : Page) where
+  pub within-append : (xs ys : List ℕ) → putWithin limit p (xs ++ ys) ≡ putWithin limit (putWithin limit p xs) ys
+  unfolding putWithin
+  within-append xs ys =
+      let front = take (p .size) (p .bytes) in
+      let one = take limit (front ++ xs) in
+      let both = take limit (one ++ ys) in
+      let longer : length one ≤ length both = simp (length-take, length-append) (omega arith) in
+      let text : take limit (front ++ (xs ++ ys)) ≡ both =
+      rw (← append-assoc front xs ys) (cut-twice limit (front ++ xs) ys) in
+      let kept : take (length one) (one ++ drop (length one) (p .bytes)) ≡ one = take-append-seam one _ in
+      ap (λ (t : List ℕ). written t (p .bytes)) text ∙ sym (written-over one both (p .bytes) longer)
+      ∙ ap (λ (t : List ℕ). written (take limit (t ++ ys)) (one ++ drop (length one) (p .bytes))) (sym kept)
 
-pub put-append : (t : Text) (xs ys : List ℕ) → put t (xs ++ ys) ≡ put (put t xs) ys
-unfolding put
-put-append t [] ys = refl
-put-append t (x ∷ xs) ys = put-append (putByte t x) xs ys
+  -- with room the text is the old one and the new bytes
+  pub within-room : (xs : List ℕ) → length (take (p .size) (p .bytes)) + length xs ≤ limit
+      → putWithin limit p xs ≡ written (take (p .size) (p .bytes) ++ xs) (p .bytes)
+  unfolding putWithin
+  within-room xs h =
+      ap (λ (t : List ℕ). written t (p .bytes))
+      (take-all limit (take (p .size) (p .bytes) ++ xs) (rw length-append (omega arith)))
+
+-- ---- pieces of a text
+
+pub put-append : (p : Page) (xs ys : List ℕ) → put p (xs ++ ys) ≡ put (put p xs) ys
+put-append = within-append textLimit
+
+-- nothing more behind what was written
+pub put-nil : (p : Page) (xs : List ℕ) → put (put p xs) [] ≡ put p xs
+put-nil p xs = sym (put-append p xs []) ∙ rw append-nil
+
+-- which is how a loop over pieces starts
+pub put-on : (p : Page) (xs : List ℕ) {out : List ℕ} {n : ℕ} → page out n ≡ put p xs → page out n ≡ put (page out n) []
+put-on p xs e = rw e (sym (put-nil p xs))
 
 -- to write pieces joined is to write each
-pub put-join : (t : Text) (ps : List (List ℕ)) → put t (join ps) ≡ puts t ps
+pub put-join : (p : Page) (q : List ℕ) (qs : List (List ℕ)) → put p (join (q ∷ qs)) ≡ puts (put p q) qs
 unfolding join
-put-join t [] = put-nil t
-put-join t (p ∷ ps) = put-append t p (join ps) ∙ put-join (put t p) ps
+put-join p q [] = rw append-nil
+put-join p q (r ∷ rs) = put-append p q (join (r ∷ rs)) ∙ put-join (put p q) r rs
 
 pub join-length : (ps : List (List ℕ)) → length (join ps) ≡ total ps
 unfolding join
@@ -45,53 +75,47 @@ join-length (p ∷ ps) = rw (length-append, join-length ps)
 
 -- ---- room
 
--- the new text is the old one and these bytes
-pub record Put (t r : Text) (xs : List ℕ) : Type 0 where
-  pub size : length (r .bytes) ≡ textLimit
-  pub len : r .len ≡ t .len + length xs
-  pub text : textOf r ≡ textOf t ++ xs
+pub put-room : (p : Page) (xs : List ℕ) → length (take (p .size) (p .bytes)) + length xs ≤ textLimit
+    → put p xs ≡ written (take (p .size) (p .bytes) ++ xs) (p .bytes)
+put-room = within-room textLimit
 
-module _ (t : Text) (b : ℕ) (sized : length (t .bytes) ≡ textLimit) where
-  byte-room : t .len < textLimit → Put t (putByte t b) (b ∷ [])
-  unfolding putByte
-  byte-room l =
-      let m : t .len < length (t .bytes) = omega arith in
-      rw (if-true _ _ (lt-ltb (t .len) textLimit l))
-      (record { size = rw length-set sized; len = refl; text = rw (add-one, take-suc-set) })
+-- at the front of a buffer
+pub put-front : (before line : List ℕ) → length line ≤ textLimit → put (page before 0) line ≡ written line before
+put-front before line h = put-room (page before 0) line (omega arith)
 
-  byte-full : textLimit ≤ t .len → putByte t b ≡ t
-  unfolding putByte
-  byte-full l = if-false _ _ (le-ltb (t .len) textLimit l)
+-- and one behind the other
+pub put-both : (before xs ys : List ℕ) → length xs + length ys ≤ textLimit
+    → put (put (page before 0) xs) ys ≡ written (xs ++ ys) before
+put-both before xs ys h =
+    sym (put-append (page before 0) xs ys) ∙ put-front before (xs ++ ys) (rw length-append (omega arith))
 
-pub put-room : (t : Text) (xs : List ℕ) → length (t .bytes) ≡ textLimit → t .len + length xs ≤ textLimit
-    → Put t (put t xs) xs
-put-room t [] h l = rw put-nil (record { size = h; len = sym (add-zero _); text = sym (append-nil _) })
-put-room t (x ∷ xs) h l =
-    let p : Put t (putByte t x) (x ∷ []) = byte-room t x h (omega arith) in
-    let q : Put (putByte t x) (put (putByte t x) xs) xs = put-room (putByte t x) xs (p .size) (omega arith) in
-    rw put-cons (record { size = q .size; len = omega arith; text = rw (q .text, p .text, append-assoc) })
+-- so the answer is the line's length, and as many bytes are the line
+pub put-said : (before line : List ℕ) {after : List ℕ} {n : ℕ} → length line ≤ textLimit
+    → page after n ≡ put (page before 0) line → (n ≡ length line) × (take n after ≡ line)
+put-said before line h e =
+    let said = e ∙ put-front before line h in (
+      ap (λ (p : Page). p .size) said,
+      ap (λ (p : Page). take (p .size) (p .bytes)) said ∙ take-append-seam line (drop (length line) before),
+    )
 
-pub put-text : (t : Text) (xs : List ℕ) → length (t .bytes) ≡ textLimit
-    → textOf (put t xs) ≡ take textLimit (textOf t ++ xs)
-put-text t [] h =
-    let l : length (textOf t) ≤ textLimit = rw length-take (omega arith) in
-    rw (put-nil, append-nil) (sym (take-all _ _ l))
-put-text t (x ∷ xs) h =
-    caseLt (t .len) textLimit
-    (λ l.
-    let p = byte-room t x h l in
-    rw (put-cons, put-text (putByte t x) xs (p .size), p .text, append-assoc))
-    (λ l.
-    let full : length (textOf t) ≡ textLimit = rw length-take (omega arith) in
-    rw (
-      put-cons,
-      byte-full t x h l,
-      put-text t xs h,
-      take-at (textOf t) xs textLimit full,
-      take-at (textOf t) (x ∷ xs) textLimit full,
-    ))
+-- ---- a lent buffer
 
--- from the empty text: the text is what was written
-pub fresh-text : (xs : List ℕ) → length xs ≤ textLimit → textOf (put freshText xs) ≡ xs
-unfolding freshText
-fresh-text xs h = put-room freshText xs (length-replicate {A = ℕ} textLimit 0) (omega arith) .text
+-- the promise fixes the answer and every lent byte: two that meet it are equal
+pub put-one : {p : Page} {a b : List ℕ} {m n : ℕ} → page a m ≡ p → page b n ≡ p → (m ≡ n) × (a ≡ b)
+put-one x y =
+    let same = x ∙ sym y in (ap (λ (p : Page). p .size) same, ap (λ (p : Page). p .bytes) same)
+
+-- as many bytes as there is room for, pasted behind the text
+pub pasted : (out s : List ℕ) (at from n : ℕ) → from ≡ min at (length out) → n ≡ min (length s) (length out - from)
+    → page (paste out from s n) (from + n) ≡ putWithin (length out) (page out at) s
+unfolding putWithin
+pasted out s at from n e k =
+    let room = length out - from in
+    let least : n ≡ min room (length s) = omega arith in
+    let long : length (take from out) + room ≡ length out = rw (length-take-le from out (omega arith)) (omega arith) in
+    let head : take at out ≡ take from out = rw (e, take-min) in
+    let text : take (length out) (take at out ++ s) ≡ take from out ++ take n s =
+    rw (head, least, take-min) (rw long at (take-append-add (take from out) s room)) in
+    let size = length-paste-head out from s n (omega arith) (omega arith) in
+    ap (λ (k : ℕ). page (take from out ++ take n s ++ drop k out) k) (sym size)
+    ∙ ap (λ (t : List ℕ). written t out) (sym text)

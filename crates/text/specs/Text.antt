@@ -3,10 +3,9 @@
 use Prim.Native.Nat.{ℕ, _+_}
 use mathlib.Core.Path.{_≡_}
 use mathlib.Core.List.{List, [], _∷_, _++_}
-use lib.Dec.{ltb, leb}
-use lib.ListN.{length, take, drop, set, replicate}
+use lib.Dec.{leb}
+use lib.ListN.{length, take, drop}
 use Rattle.logic.specs.Test.{if_then_else_}
-use Rattle.text.specs.declared.Text.{Text}
 use Rattle.text.specs.declared.Copied.{Copied}
 use Rattle.text.specs.declared.Copied.the-variants.{Written, NoRoom}
 
@@ -16,21 +15,24 @@ textLimit = 2048
 
 -- ---- writing
 
--- what a record stands for: its first len bytes
-abbrev pub textOf : Text → List ℕ
-textOf t = take (t .len) (t .bytes)
+-- a lent buffer, and how many of its bytes are the text
+pub record Page : Type 0 where
+  pub bytes : List ℕ
+  pub size : ℕ
 
-unfoldable pub freshText : Text
-freshText = record { bytes = replicate textLimit 0; len = 0 }
+abbrev pub page : (bytes : List ℕ) (size : ℕ) → Page
+page bytes size = record { bytes = bytes; size = size }
 
--- one byte more, where there is room for it
-unfoldable pub putByte : Text → ℕ → Text
-putByte t b = if ltb (t .len) textLimit then record { bytes = set (t .bytes) (t .len) b; len = t .len + 1 } else t
+-- a text at the front of a buffer; the bytes past it keep their values
+abbrev pub written : (text before : List ℕ) → Page
+written text before = page (text ++ drop (length text) before) (length text)
 
--- bytes more, first to last
-unfoldable pub put : Text → List ℕ → Text
-put t [] = t
-put t (b ∷ bs) = put (putByte t b) bs
+-- bytes more behind the text; what goes over the limit is dropped
+unfoldable pub putWithin : (limit : ℕ) → Page → List ℕ → Page
+putWithin limit p more = written (take limit (take (p .size) (p .bytes) ++ more)) (p .bytes)
+
+abbrev pub put : Page → List ℕ → Page
+put = putWithin textLimit
 
 -- ---- a text of many pieces
 
@@ -40,9 +42,9 @@ join [] = []
 join (p ∷ ps) = p ++ join ps
 
 -- each of them written in turn, which is what a chain of calls does
-abbrev pub puts : Text → List (List ℕ) → Text
-puts t [] = t
-puts t (p ∷ ps) = puts (put t p) ps
+abbrev pub puts : Page → List (List ℕ) → Page
+puts p [] = p
+puts p (piece ∷ pieces) = puts (put p piece) pieces
 
 -- how many bytes they have
 abbrev pub total : List (List ℕ) → ℕ

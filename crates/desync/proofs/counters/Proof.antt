@@ -8,21 +8,21 @@ use Rattle.desync.proofs.counters.Tie as tie
 returns : tie.Need-returns
 unfolding statsText
 returns c =
-    let n6 = c .before .before in
-    let n5 = n6 .before .before in
-    let n4 = n5 .before .before in
-    let n3 = n4 .before .before in
-    let n2 = n3 .before .before in
+    let at-number6 = c .before .before .before in
+    let at-number5 = at-number6 .before .before .before in
+    let at-number4 = at-number5 .before .before .before in
+    let at-number3 = at-number4 .before .before .before in
+    let at-number2 = at-number3 .before .before .before in
+    let at-number = at-number2 .before .before .before in
     rw (
       put-join,
-      c .piece .ensures,
-      n6 .number6 .ensures,
-      n5 .number5 .ensures,
-      n4 .number4 .ensures,
-      n3 .number3 .ensures,
-      n2 .number2 .ensures,
-      n2 .before .before .number .ensures,
-    )
+      ← at-number .number .ensures,
+      ← at-number2 .number2 .ensures,
+      ← at-number3 .number3 .ensures,
+      ← at-number4 .number4 .ensures,
+      ← at-number5 .number5 .ensures,
+      ← at-number6 .number6 .ensures,
+    ) (c .piece .ensures)
 
 pub counters-spec : {M : Type 1} → statement M
 counters-spec =

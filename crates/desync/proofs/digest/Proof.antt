@@ -8,14 +8,15 @@ use Rattle.desync.proofs.digest.Tie as tie
 returns : tie.Need-returns
 unfolding digestText
 returns c =
-    let hex = c .before .before in
+    let at-hex16 = c .before .before .before in
+    let at-piece2 = at-hex16 .before .before in
+    let at-piece = at-piece2 .before .before .before in
     rw (
       put-join,
-      c .piece3 .ensures,
-      hex .hex16 .ensures,
-      hex .before .piece2 .ensures,
-      hex .before .before .before .piece .ensures,
-    )
+      ← at-piece .piece .ensures,
+      ← at-piece2 .piece2 .ensures,
+      ← at-hex16 .hex16 .ensures,
+    ) (c .piece3 .ensures)
 
 pub digest-spec : {M : Type 1} → statement M
 digest-spec =

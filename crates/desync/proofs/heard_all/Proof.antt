@@ -7,18 +7,19 @@ use borrow.Author.Needs.{needs}
 use Rattle.logic.proofs.Tabulated.{Filled, filled-none, filled-more, filled-all}
 use Rattle.peer.specs.Seats.{seats}
 use Rattle.peer.proofs.Loops.{built, built-none, built-with, built-skip, built-all}
+use Rattle.fingerprint.specs.Cells.{printsOf}
 use Rattle.desync.specs.Report.{printIn, isHeld, heardFrom, heardAll}
 use Rattle.desync.proofs.heard_all.Statement.{statement}
 use Rattle.desync.proofs.heard_all.Tie as tie
 
 abbrev Inv-loop : tie.InvT-loop
-Inv-loop remotes prints tick there₀ states₀ inputs₀ seat₀ there states inputs seat =
-    (there .0 ≡ built seats (λ k. isHeld (heardFrom (remotes .0) prints tick k)) seat)
-    × Filled 0 (λ k. printIn (heardFrom (remotes .0) prints tick k) .state) seats seat states
-    × Filled 0 (λ k. printIn (heardFrom (remotes .0) prints tick k) .input) seats seat inputs
+Inv-loop remotes held ticks states inputs tick there₀ states₀ inputs₀ seat₀ there states′ inputs′ seat =
+    let from = heardFrom (remotes .0) (printsOf held ticks states inputs) tick in
+    (there .0 ≡ built seats (λ k. isHeld (from k)) seat) × Filled 0 (λ k. printIn (from k) .state) seats seat states′
+    × Filled 0 (λ k. printIn (from k) .input) seats seat inputs′
 
 abbrev μ-loop : tie.MeasureT-loop
-μ-loop remotes prints tick there₀ states₀ inputs₀ seat₀ there states inputs seat = seats - seat
+μ-loop remotes held ticks states inputs tick there₀ states₀ inputs₀ seat₀ there states′ inputs′ seat = seats - seat
 
 loop-holds : tie.Need-loop-holds Inv-loop μ-loop
 loop-holds c = (sym (built-none _ _), filled-none refl, filled-none refl)

@@ -4,7 +4,9 @@ use Rattle.desync.proofs.number.Statement.{statement}
 use Rattle.desync.proofs.number.Tie as tie
 
 returns : tie.Need-returns
-returns c = rw (c .decimal .ensures, c .before .piece .ensures)
+returns c =
+    let at-piece = c .before .before in
+    rw (← at-piece .piece .ensures) (c .decimal .ensures)
 
 pub number-spec : {M : Type 1} → statement M
 number-spec = tie.close (tie.spec (search needs) (search needs) returns)

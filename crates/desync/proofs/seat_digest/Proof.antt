@@ -8,17 +8,16 @@ use Rattle.desync.proofs.seat_digest.Tie as tie
 
 returns : tie.Need-returns
 unfolding seatDigest if_then_else_
-returns c = rw (sym (c .before .before .contains .ensures) ∙ c .before .if1 .taken) (c .digest .ensures)
+returns c =
+    let test = c .before .before in
+    rw (sym (test .before .contains .ensures) ∙ test .if1 .taken) (c .digest .ensures)
 
 returns-2 : tie.Need-returns-2
 unfolding seatDigest if_then_else_
 returns-2 c =
-    let named = c .before .before in
-    rw (
-      sym (named .before .before .contains .ensures) ∙ named .before .if1 .left,
-      c .piece2 .ensures,
-      named .piece .ensures,
-    )
+    let named = c .before .before .before in
+    let test = named .before .before in
+    rw (sym (test .before .contains .ensures) ∙ test .if1 .left, ← named .piece .ensures) (c .piece2 .ensures)
 
 pub seat-digest-spec : {M : Type 1} → statement M
 seat-digest-spec =

@@ -2,8 +2,7 @@
 use mathlib.Core.Path.{refl, ap, _∙_}
 use native.Mathlib.Omega.{arith}
 use borrow.Author.Needs.{needs}
-use Rattle.text.specs.Text.{textOf}
-use Rattle.text.proofs.Writing.{fresh-text}
+use Rattle.text.proofs.Writing.{put-said}
 use Rattle.desync.specs.Asked.{writtenOf, writeAnswer, writeInto}
 use Rattle.desync.proofs.write_found.Statement.{statement}
 use Rattle.desync.proofs.write_found.Tie as tie
@@ -20,9 +19,11 @@ returns-3 : tie.Need-returns-3
 unfolding writeAnswer writeInto
 returns-3 c =
     let copy = c .before .before .before in
-    let json = copy .before .before .json .ensures in
-    let copied = rw (ap textOf (json .0) ∙ fresh-text _ (omega (arith, json .1))) at (copy .copy-out .ensures) in
-    rw (copy .before .before .before .enum-told3 .given .1)
+    let json = copy .before .before .before in
+    let text = json .json .ensures in
+    let said = put-said _ _ (omega (arith, text .1)) (text .0) in
+    let copied = rw (said .1) at (copy .copy-out .ensures) in
+    rw (json .before .before .enum-told3 .given .1)
     (record { answered = c .written .ensures ∙ ap writtenOf (copied .answered); lent = copied .lent })
 
 pub write-found-spec : {M : Type 1} → statement M

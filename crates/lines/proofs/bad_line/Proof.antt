@@ -1,5 +1,4 @@
 -- `lines::bad_line` meets its contract. Assumes nothing.
-use mathlib.Core.Path.{_∙_}
 use native.Mathlib.Omega.{arith}
 use borrow.Author.Needs.{needs}
 use Rattle.lines.specs.Lines.{badLine}
@@ -8,7 +7,7 @@ use Rattle.lines.proofs.bad_line.Tie as tie
 
 returns : tie.Need-returns
 unfolding badLine
-returns c = record { wrote = rw (c .piece .ensures, c .before .before .new .ensures); fits = omega arith }
+returns c = record { said = c .piece .ensures; fits = omega arith }
 
 pub bad-line-spec : {M : Type 1} → statement M
-bad-line-spec = tie.close (tie.spec (search needs) (search needs) (search needs) returns)
+bad-line-spec = tie.close (tie.spec (search needs) (search needs) returns)

@@ -9,17 +9,12 @@ use Rattle.lines.proofs.ended.Tie as tie
 returns : tie.Need-returns
 unfolding endedLine
 returns c =
-    let said = c .before .outcome .ensures in
+    let at = c .before .before in
+    let why = at .outcome .ensures in
     record {
-      wrote = rw (
-        put-join,
-        c .byte .ensures,
-        said .0,
-        c .before .before .piece .ensures,
-        c .before .before .before .before .new .ensures,
-      );
-      fits = rw join-length (omega (arith, said .1));
+      said = rw (put-join, ← at .before .before .piece .ensures, ← why .0) (c .byte .ensures);
+      fits = rw join-length (omega (arith, why .1));
     }
 
 pub ended-spec : {M : Type 1} → statement M
-ended-spec = tie.close (tie.spec (search needs) (search needs) (search needs) (search needs) (search needs) returns)
+ended-spec = tie.close (tie.spec (search needs) (search needs) (search needs) (search needs) returns)

@@ -21,14 +21,15 @@ slice-aggregate-hex-bytes c = sym (length-take-le _ _ (omega arith))
 returns : tie.Need-returns
 unfolding fieldText
 returns c =
-    let sized = c .before .before .before in
+    let blank = c .before .before .before in
+    let sized = blank .before .before in
     let a = sized .before .before .args in
-    let long : length (a .t2) ≡ 16 = search needs in
-    let n : sized .least .result ≡ min (a .width) (length (a .t2)) =
+    let long : length (a .t3) ≡ 16 = search needs in
+    let n : sized .least .result ≡ min (a .width) (length (a .t3)) =
     rw (long, ← sized .before .wide .ensures) (sized .least .ensures) in
-    let head : take (sized .least .result) (a .t2) ≡ take (a .width) (a .t2) = rw (n, take-min) in
-    let few : length (take (a .width) (a .t2)) ≤ 16 = rw length-take (omega arith) in (
-      rw (put-join, ← head, c .hex-bytes .ensures, c .before .before .byte .ensures),
+    let head : take (sized .least .result) (a .t3) ≡ take (a .width) (a .t3) = rw (n, take-min) in
+    let few : length (take (a .width) (a .t3)) ≤ 16 = rw length-take (omega arith) in (
+      rw (put-join, ← head, ← blank .byte .ensures) (c .hex-bytes .ensures),
       rw (join-length, hex-bytes-length) (omega arith),
     )
 

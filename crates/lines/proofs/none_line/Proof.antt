@@ -7,7 +7,7 @@ use Rattle.lines.proofs.none_line.Tie as tie
 
 returns : tie.Need-returns
 unfolding noneLine
-returns c = record { wrote = rw (c .piece .ensures, c .before .before .new .ensures); fits = omega arith }
+returns c = record { said = c .piece .ensures; fits = omega arith }
 
 pub none-line-spec : {M : Type 1} → statement M
-none-line-spec = tie.close (tie.spec (search needs) (search needs) (search needs) returns)
+none-line-spec = tie.close (tie.spec (search needs) (search needs) returns)

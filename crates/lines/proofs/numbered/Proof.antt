@@ -11,18 +11,11 @@ use Rattle.lines.proofs.numbered.Tie as tie
 returns : tie.Need-returns
 unfolding numbered
 returns c =
+    let at = c .before .before in
+    let number = rw (at .before .long .ensures) at (at .worded .ensures) in
     let a = c .before .before .before .before .before .before .args in
-    record {
-      wrote = rw (
-        put-join,
-        c .byte .ensures,
-        c .before .decimal .ensures,
-        c .before .before .long .ensures,
-        c .before .before .before .piece .ensures,
-        c .before .before .before .before .new .ensures,
-      );
-      fits = omega (arith, numbered-length (now (a .name)) (a .n) (omega arith) (omega arith));
-    }
+    let few = numbered-length (now (a .name)) (a .n) (omega arith) (omega arith) in
+    record { said = rw (put-join, ← number) (c .byte .ensures); fits = omega arith }
 
 pub numbered-spec : {M : Type 1} → statement M
-numbered-spec = tie.close (tie.spec (search needs) (search needs) (search needs) (search needs) (search needs) returns)
+numbered-spec = tie.close (tie.spec (search needs) (search needs) (search needs) returns)

@@ -11,23 +11,17 @@ returns : tie.Need-returns
 unfolding outcomeText
 returns c =
     let o = c .before .before .before .before .o .given in (
-      rw (o .1, put-join, c .decimal .ensures, c .before .piece .ensures),
+      rw (o .1, put-join) (c .worded .ensures),
       rw (o .1, join-length) (omega (arith, decimal-20 (o .0 .0) (omega arith))),
     )
 
 returns-2 : tie.Need-returns-2
 unfolding outcomeText
 returns-2 c =
-    let o = c .before .before .before .before .before .before .before .o2 .given in (
-      rw (
-        o .1,
-        put-join,
-        c .decimal3 .ensures,
-        c .before .byte .ensures,
-        c .before .before .decimal2 .ensures,
-        c .before .before .before .long .ensures,
-        c .before .before .before .before .piece2 .ensures,
-      ),
+    let at = c .before .before .before in
+    let seat = rw (at .before .long .ensures) at (at .worded2 .ensures) in
+    let o = at .before .before .before .before .before .o2 .given in (
+      rw (o .1, put-join, ← seat) (c .worded3 .ensures),
       rw (o .1, join-length) (omega (arith, decimal-20 (o .0 .0) (omega arith), decimal-20 (o .0 .1 .0) (omega arith))),
     )
 
@@ -35,7 +29,7 @@ returns-3 : tie.Need-returns-3
 unfolding outcomeText
 returns-3 c =
     let o = c .before .before .before .before .o3 .given in (
-      rw (o .1, put-join, c .decimal4 .ensures, c .before .piece3 .ensures),
+      rw (o .1, put-join) (c .worded4 .ensures),
       rw (o .1, join-length) (omega (arith, decimal-20 (o .0 .0) (omega arith))),
     )
 
@@ -43,5 +37,4 @@ pub outcome-spec : {M : Type 1} → statement M
 outcome-spec =
     tie.close
     (tie.spec (search needs) (search needs) (search needs) (search needs) (search needs) (search needs) (search needs)
-    (search needs) (search needs) (search needs) (search needs) (search needs) (search needs) (search needs)
-    (search needs) returns returns-2 returns-3)
+    (search needs) (search needs) (search needs) (search needs) (search needs) returns returns-2 returns-3)

@@ -10,19 +10,13 @@ use Rattle.lines.proofs.stalled_line.Tie as tie
 returns : tie.Need-returns
 unfolding stalledLine
 returns c =
-    let a = c .before .before .before .before .before .before .before .before .before .args in
+    let pumped = c .before .before in
+    let missed = pumped .before .before .before in
+    let ticked = missed .before .before .before in
+    let a = ticked .before .before .before .args in
     record {
-      wrote = rw (
-        put-join,
-        c .byte3 .ensures,
-        c .before .decimal3 .ensures,
-        c .before .before .byte2 .ensures,
-        c .before .before .before .decimal2 .ensures,
-        c .before .before .before .before .byte .ensures,
-        c .before .before .before .before .before .decimal .ensures,
-        c .before .before .before .before .before .before .piece .ensures,
-        c .before .before .before .before .before .before .before .before .new .ensures,
-      );
+      said = rw (put-join, ← ticked .worded .ensures, ← missed .worded2 .ensures, ← pumped .worded3 .ensures)
+          (c .byte .ensures);
       fits = rw join-length (omega (
         arith,
         decimal-20 (a .tick) (omega arith),
@@ -35,4 +29,4 @@ pub stalled-line-spec : {M : Type 1} → statement M
 stalled-line-spec =
     tie.close
     (tie.spec (search needs) (search needs) (search needs) (search needs) (search needs) (search needs) (search needs)
-    (search needs) (search needs) returns)
+    returns)

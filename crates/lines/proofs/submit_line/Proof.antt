@@ -10,24 +10,18 @@ use Rattle.lines.proofs.submit_line.Tie as tie
 returns : tie.Need-returns
 unfolding submitLine
 returns c =
-    let tail = c .before .accepted .ensures in
+    let at = c .before .before in
+    let tail = at .accepted .ensures in
+    let word = at .before .before in
+    let number = word .before .before .number in
+    let said = rw (word .before .long .ensures) at (word .worded .ensures) in
     record {
-      wrote = rw (
-        put-join,
-        c .byte .ensures,
-        tail .0,
-        c .before .before .decimal .ensures,
-        c .before .before .before .long .ensures,
-        c .before .before .before .before .number .ensures,
-        c .before .before .before .before .before .piece .ensures,
-        c .before .before .before .before .before .before .before .new .ensures,
-      );
-      fits = rw (join-length, ← c .before .before .before .before .number .ensures)
-          (omega (arith, tail .1, decimal-20 (c .before .before .before .before .number .result) (omega arith)));
+      said = rw (put-join, ← number .ensures, ← said, ← tail .0) (c .byte .ensures);
+      fits = rw (join-length, ← number .ensures)
+          (omega (arith, tail .1, decimal-20 (number .result) (omega arith)));
     }
 
 pub submit-line-spec : {M : Type 1} → statement M
 submit-line-spec =
     tie.close
-    (tie.spec (search needs) (search needs) (search needs) (search needs) (search needs) (search needs) (search needs)
-    (search needs) returns)
+    (tie.spec (search needs) (search needs) (search needs) (search needs) (search needs) (search needs) returns)

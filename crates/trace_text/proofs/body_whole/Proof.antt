@@ -1,4 +1,5 @@
 -- `trace_text::body_whole` meets its contract. Assumes nothing.
+use Prim.Native.Nat.{_^_, _<_}
 use native.Mathlib.Omega.{arith}
 use borrow.Author.Needs.{needs}
 use Rattle.text.proofs.Writing.{put-join, join-length}
@@ -10,36 +11,46 @@ use Rattle.trace_text.proofs.body_whole.Tie as tie
 returns : tie.Need-returns
 unfolding bodyWhole
 returns c =
-    rw (c .before .before .body .given .1) (c .hello-whole .ensures .0, omega (arith, c .hello-whole .ensures .1))
+    let hello = c .hello-whole .ensures in
+    rw (c .before .before .before .body .given .1) (hello .0, omega (arith, hello .1))
 
 returns-2 : tie.Need-returns-2
 unfolding bodyWhole
-returns-2 c = rw (c .before .before .body2 .given .1) (c .inputs-whole .ensures)
+returns-2 c = rw (c .before .before .before .body2 .given .1) (c .inputs-whole .ensures)
+
+-- what the types say of a digest's numbers
+sized : (c : tie.After-known-told3)
+    → let b = c .before .body3 .given .0 .0 in (b .tick < 2 ^ 64) × (b .state < 2 ^ 64) × (b .input < 2 ^ 64)
+sized c = (omega arith, omega arith, omega arith)
 
 returns-3 : tie.Need-returns-3
 unfolding bodyWhole
 returns-3 c =
-    let b = c .before .before .before .before .body3 .given in (
-      rw (b .1, put-join, c .spaced3 .ensures, c .before .spaced2 .ensures, c .before .before .spaced .ensures),
+    let state = c .before .before in
+    let tick = state .before .before in
+    let known = tick .before .before in
+    let b = known .before .body3 .given in
+    let n = sized known in (
+      rw (b .1, put-join, ← tick .spaced .ensures, ← state .spaced2 .ensures) (c .spaced3 .ensures),
       rw (b .1, join-length) (omega (
         arith,
-        spaced-short (b .0 .0 .tick) (omega arith),
-        spaced-short (b .0 .0 .state) (omega arith),
-        spaced-short (b .0 .0 .input) (omega arith),
+        spaced-short (b .0 .0 .tick) (n .0),
+        spaced-short (b .0 .0 .state) (n .1),
+        spaced-short (b .0 .0 .input) (n .2),
       )),
     )
 
 returns-4 : tie.Need-returns-4
 unfolding bodyWhole
 returns-4 c =
-    let b = c .before .before .body4 .given in
+    let b = c .before .before .before .body4 .given in
     (rw (b .1) (c .spaced4 .ensures), rw (b .1) (omega (arith, spaced-short (b .0 .0 .tick) (omega arith))))
 
 returns-5 : tie.Need-returns-5
 unfolding bodyWhole
 returns-5 c =
-    let b = c .before .before .before .body5 .given in (
-      rw (b .1, c .spaced5 .ensures, c .before .long .ensures),
+    let b = c .before .before .before .before .body5 .given in (
+      rw (b .1) (rw (c .before .long .ensures) at (c .spaced5 .ensures)),
       rw (b .1) (omega (arith, spaced-short (b .0 .0) (omega arith))),
     )
 

@@ -11,18 +11,22 @@ use Rattle.trace_text.proofs.counters.Tie as tie
 returns : tie.Need-returns
 unfolding countersText
 returns c =
-    let start = c .before .before .before .before .before .before in
+    let four = c .before .before in
+    let three = four .before .before in
+    let two = three .before .before in
+    let one = two .before .before in
+    let first = one .before .before in
+    let start = first .before .before in
     let s = start .args .s in
-    let g = start .good .1 .0 .1 .1 in (
+    let g = start .good .1 .1 .0 .1 .1 in (
       rw (
         put-join,
-        c .spaced5 .ensures,
-        c .before .spaced4 .ensures,
-        c .before .before .spaced3 .ensures,
-        c .before .before .before .spaced2 .ensures,
-        c .before .before .before .before .spaced .ensures,
-        c .before .before .before .before .before .decimal .ensures,
-      ),
+        ← first .decimal .ensures,
+        ← one .spaced .ensures,
+        ← two .spaced2 .ensures,
+        ← three .spaced3 .ensures,
+        ← four .spaced4 .ensures,
+      ) (c .spaced5 .ensures),
       rw join-length (omega (
         arith,
         decimal-20 (s .«datagrams_refused») (g .0 .1),

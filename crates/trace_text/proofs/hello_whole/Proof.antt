@@ -10,27 +10,27 @@ use Rattle.trace_text.proofs.hello_whole.Tie as tie
 returns : tie.Need-returns
 unfolding helloWhole
 returns c =
-    let six = c .before .before .before .before in
-    let four = six .before .before .before .before in
-    let start = c .before .before .before .before .before .before .before .before .before .before .before .before in
+    let seven = c .before .before .before in
+    let six = seven .before .before .before in
+    let five = six .before .before .before in
+    let four = five .before .before .before in
+    let three = four .before .before in
+    let two = three .before .before in
+    let one = two .before .before in
+    let start = one .before .before in
     let b = start .args .b in
-    let g = start .good .1 .0 .1 .1 in
+    let g = start .good .1 .1 .0 .1 .1 in
     let small = g .1 .1 .1 .1 in (
       rw (
         put-join,
-        c .spaced8 .ensures,
-        c .before .long4 .ensures,
-        c .before .before .spaced7 .ensures,
-        c .before .before .before .long3 .ensures,
-        six .spaced6 .ensures,
-        six .before .long2 .ensures,
-        six .before .before .spaced5 .ensures,
-        six .before .before .before .long .ensures,
-        four .spaced4 .ensures,
-        four .before .spaced3 .ensures,
-        four .before .before .spaced2 .ensures,
-        four .before .before .before .spaced .ensures,
-      ),
+        ← one .spaced .ensures,
+        ← two .spaced2 .ensures,
+        ← three .spaced3 .ensures,
+        ← four .spaced4 .ensures,
+        ← rw (five .before .long .ensures) at (five .spaced5 .ensures),
+        ← rw (six .before .long2 .ensures) at (six .spaced6 .ensures),
+        ← rw (seven .before .long3 .ensures) at (seven .spaced7 .ensures),
+      ) (rw (c .before .long4 .ensures) at (c .spaced8 .ensures)),
       rw join-length (omega (
         arith,
         spaced-short (b .agreement) (g .0 .1),

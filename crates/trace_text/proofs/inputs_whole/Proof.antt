@@ -19,30 +19,33 @@ array-share-prefix-run c = omega arith
 slice-aggregate-hex-bytes : tie.Need-slice-aggregate-hex-bytes
 slice-aggregate-hex-bytes c = sym (length-take-le _ _ (omega arith))
 
+run-long : (c : tie.Start) → length (c .args .t4) ≡ 128
+run-long c = search needs
+
 returns : tie.Need-returns
 unfolding inputsWhole
 returns c =
-    let three = c .before .before .before in
-    let sized = three .before .before .before .before .before in
+    let blank = c .before .before .before in
+    let three = blank .before .before in
+    let two = three .before .before .before in
+    let one = two .before .before .before in
+    let sized = one .before .before in
     let start = sized .before in
     let b = start .args .b in
-    let run = start .args .t3 in
-    let g = start .good .1 .0 .1 .1 in
-    let long : length run ≡ 128 = search needs in
+    let run = start .args .t4 in
+    let g = start .good .1 .1 .0 .1 .1 in
+    let long = run-long start in
     let n : sized .run-size .result ≡ min (b .count * b .width) (length run) = rw long (sized .run-size .ensures) in
     let head : take (sized .run-size .result) run ≡ take (b .count * b .width) run = rw (n, take-min) in
     let few : length (take (b .count * b .width) run) ≤ 128 = rw length-take (omega arith) in (
       rw (
         put-join,
+        ← one .spaced .ensures,
+        ← rw (two .before .long .ensures) at (two .spaced2 .ensures),
+        ← rw (three .before .long2 .ensures) at (three .spaced3 .ensures),
+        ← blank .byte .ensures,
         ← head,
-        c .hex-bytes .ensures,
-        c .before .before .byte .ensures,
-        three .spaced3 .ensures,
-        three .before .long2 .ensures,
-        three .before .before .spaced2 .ensures,
-        three .before .before .before .long .ensures,
-        three .before .before .before .before .spaced .ensures,
-      ),
+      ) (c .hex-bytes .ensures),
       rw (join-length, hex-bytes-length) (omega (
         arith,
         spaced-short (b .first) (g .0 .1),

@@ -11,17 +11,17 @@ use Rattle.trace_text.proofs.message_whole.Tie as tie
 returns : tie.Need-returns
 unfolding messageWhole
 returns c =
-    let start = c .before .before .before .before in
+    let session = c .before .before in
+    let sender = session .before .before in
+    let start = sender .before .before .before in
     let m = start .args .m in
-    let g = start .good .1 .0 .1 .1 in
+    let g = start .good .1 .1 .0 .1 .1 in
     let body = c .body-whole .ensures in (
       rw (
         put-join,
-        body .0,
-        c .before .spaced .ensures,
-        c .before .before .decimal .ensures,
-        c .before .before .before .long .ensures,
-      ),
+        ← rw (sender .before .long .ensures) at (sender .decimal .ensures),
+        ← session .spaced .ensures,
+      ) (body .0),
       rw join-length (omega
           (arith, body .1, decimal-20 (m .sender) (omega (arith, g .0 .1)), spaced-short (m .session) (g .1 .0 .1))),
     )

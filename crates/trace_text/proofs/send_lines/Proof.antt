@@ -1,25 +1,21 @@
 -- `trace_text::send_lines` meets its contract. Assumes nothing.
-use mathlib.Core.Path.{sym, ap, _∙_}
 use mathlib.Core.List.{append-nil}
 use native.Mathlib.Omega.{arith}
 use borrow.Author.Needs.{needs}
 use lib.ListN.{length-append}
 use Rattle.logic.specs.Test.{if_then_else_}
-use Rattle.text.specs.Text.{put}
 use Rattle.text.proofs.Writing.{put-append}
-use Rattle.trace_text.specs.Trace.{sentLine, sendLines}
+use Rattle.trace_text.specs.Trace.{sendLines}
 use Rattle.trace_text.proofs.send_lines.Statement.{statement}
 use Rattle.trace_text.proofs.send_lines.Tie as tie
 
 returns : tie.Need-returns
 unfolding sendLines if_then_else_
 returns c =
-    let line = c .before .before .send-line .ensures in
+    let line = c .before .before .before .send-line .ensures in
     let sent = c .sent-line .ensures in
-    rw (c .before .if1 .taken) (record {
-      wrote = sent .0
-          ∙ ap (λ t. put t (sentLine (c .before .before .before .args .answer) (c .before .before .before .args .run)))
-          (line .0 .wrote) ∙ sym (put-append _ _ _);
+    rw (c .before .before .if1 .taken) (record {
+      said = rw (put-append, ← line .0 .said) (sent .0);
       fits = rw length-append (omega (arith, line .1, sent .1));
     })
 

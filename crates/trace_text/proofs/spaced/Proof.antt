@@ -7,7 +7,7 @@ use Rattle.trace_text.proofs.spaced.Tie as tie
 
 returns : tie.Need-returns
 unfolding spaced
-returns c = rw (put-join, c .decimal .ensures, c .before .byte .ensures)
+returns c = rw (put-join, ← c .before .before .byte .ensures) (c .decimal .ensures)
 
 pub spaced-spec : {M : Type 1} → statement M
 spaced-spec = tie.close (tie.spec (search needs) (search needs) returns)

@@ -1,4 +1,5 @@
 -- `trace_text::state_line` meets its contract. Assumes nothing.
+use Prim.Native.Nat.{_^_, _<_}
 use native.Mathlib.Omega.{arith}
 use borrow.Author.Needs.{needs}
 use Rattle.text.proofs.Writing.{put-join, join-length}
@@ -8,38 +9,48 @@ use Rattle.trace_text.proofs.Laws.{spaced-short}
 use Rattle.trace_text.proofs.state_line.Statement.{statement}
 use Rattle.trace_text.proofs.state_line.Tie as tie
 
+-- what the types say of the numbers
+sized : (c : tie.Start) → (c .args .pending < 2 ^ 64) × (c .args .next < 2 ^ 64) × (c .args .digest < 2 ^ 64)
+sized c = (omega arith, omega arith, omega arith)
+
 returns : tie.Need-returns
 unfolding stateLine
 returns c =
-    let hashed = c .before .before .before in
-    let flagged = hashed .before in
-    let played = flagged .before .before in
-    let spaced2 = played .before .before in
-    let counted = spaced2 .before .before in
-    let start = counted .before .before .before in
-    let a = start .args in (
+    let over = c .before .before in
+    let third = over .before .before in
+    let hashed = third .before .before in
+    let wanted = hashed .before .before in
+    let second = wanted .before .before in
+    let played = second .before .before in
+    let first = played .before .before in
+    let next = first .before .before in
+    let pending = next .before .before in
+    let counted = pending .before .before in
+    let begun = counted .before .before in
+    let start = begun .before .before .before in
+    let a = start .args in
+    let n = sized start in (
       rw (
         put-join,
-        c .byte4 .ensures,
-        c .before .standing .ensures .0,
-        c .before .before .byte3 .ensures,
-        hashed .spaced3 .ensures,
-        flagged .flag2 .ensures,
-        flagged .before .byte2 .ensures,
-        played .flag .ensures,
-        played .before .byte .ensures,
-        spaced2 .spaced2 .ensures,
-        spaced2 .before .spaced .ensures,
-        counted .counters .ensures .0,
-        counted .before .piece .ensures,
-      ),
+        ← begun .piece .ensures,
+        ← counted .counters .ensures .0,
+        ← pending .spaced .ensures,
+        ← next .spaced2 .ensures,
+        ← first .byte .ensures,
+        ← played .flag .ensures,
+        ← second .byte2 .ensures,
+        ← wanted .flag2 .ensures,
+        ← hashed .spaced3 .ensures,
+        ← third .byte3 .ensures,
+        ← over .standing .ensures .0,
+      ) (c .byte4 .ensures),
       rw (join-length, flag-one (a .playing), flag-one (a .wants)) (omega (
         arith,
         counted .counters .ensures .1,
-        c .before .standing .ensures .1,
-        spaced-short (a .pending) (omega arith),
-        spaced-short (a .next) (omega arith),
-        spaced-short (a .digest) (omega arith),
+        over .standing .ensures .1,
+        spaced-short (a .pending) (n .0),
+        spaced-short (a .next) (n .1),
+        spaced-short (a .digest) (n .2),
       )),
     )
 

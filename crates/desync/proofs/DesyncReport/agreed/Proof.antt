@@ -8,15 +8,15 @@ use Rattle.desync.proofs.DesyncReport.agreed.Tie as tie
 returns : tie.Need-returns
 unfolding agreedText
 returns c =
-    let rules = c .before .before in
-    let content = rules .before .before in
+    let at-digest3 = c .before .before .before in
+    let at-digest2 = at-digest3 .before .before .before in
+    let at-digest = at-digest2 .before .before .before in
     rw (
       put-join,
-      c .number .ensures,
-      rules .digest3 .ensures,
-      content .digest2 .ensures,
-      content .before .before .digest .ensures,
-    )
+      ← at-digest .digest .ensures,
+      ← at-digest2 .digest2 .ensures,
+      ← at-digest3 .digest3 .ensures,
+    ) (c .number .ensures)
 
 pub agreed-spec : {M : Type 1} → statement M
 agreed-spec =

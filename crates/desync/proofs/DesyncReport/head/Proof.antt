@@ -8,8 +8,9 @@ use Rattle.desync.proofs.DesyncReport.head.Tie as tie
 returns : tie.Need-returns
 unfolding headText
 returns c =
-    let local = c .before .before .before in
-    rw (put-join, c .number3 .ensures, local .number2 .ensures, local .before .before .before .number .ensures)
+    let at-number2 = c .before .before .before .before in
+    let at-number = at-number2 .before .before .before .before in
+    rw (put-join, ← at-number .number .ensures, ← at-number2 .number2 .ensures) (c .number3 .ensures)
 
 pub head-spec : {M : Type 1} → statement M
 head-spec =

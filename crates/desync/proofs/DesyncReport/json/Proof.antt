@@ -1,18 +1,18 @@
 -- `desync::DesyncReport::json` meets its contract: six texts, and the types of the numbers say that they fit. Assumes
 -- nothing.
-use mathlib.Core.Path.{_≡_, ap, _∙_}
 use borrow.Author.Needs.{needs}
-use Rattle.text.specs.Text.{freshText, put}
 use Rattle.text.proofs.Writing.{put-join}
 use Rattle.desync.specs.Json.{reportText}
 use Rattle.desync.proofs.Laws.{Sized, report-length}
 use Rattle.desync.proofs.DesyncReport.json.Statement.{statement}
 use Rattle.desync.proofs.DesyncReport.json.Tie as tie
 
-sized : (c : tie.After-counters) → Sized (c .before .before .before .before .before .before .before .args .self)
+sized : (c : tie.After-counters) → let start =
+    c .before .before .before .before .before .before .before .before .before .before .before .before in
+    Sized (start .args .self)
 sized c =
-    let own = c .before .before .before in
-    let g = own .before .before .before .before .good .0 .1 .1 in
+    let own = c .before .before .before .before .before .before in
+    let g = own .before .before .before .before .before .before .good .0 .1 .1 in
     let seed = g .1 .1 .1 .1 .1 .1 .1 .1 .1 .1 .1 .1 .1 in
     let n = seed .1 .0 .1 .1 in
     record {
@@ -31,27 +31,27 @@ sized c =
       };
     }
 
-written : (c : tie.After-counters) → c .counters .result
-    ≡ put freshText (reportText (c .before .before .before .before .before .before .before .args .self))
-unfolding reportText
-written c =
-    let own = c .before .before .before in
-    rw (
-      put-join,
-      c .counters .ensures,
-      c .before .agreed .ensures,
-      c .before .before .lists .ensures,
-      own .own .ensures .0,
-      own .before .verdict .ensures,
-      own .before .before .head .ensures,
-      own .before .before .before .new .ensures,
-    )
-
 returns : tie.Need-returns
-returns c = (written c, report-length _ (sized c))
+unfolding reportText
+returns c =
+    let at-agreed = c .before .before in
+    let at-lists = at-agreed .before .before in
+    let at-own = at-lists .before .before in
+    let at-verdict = at-own .before .before in
+    let at-head = at-verdict .before .before in
+    let r = at-head .before .before .args .self in (
+      rw (
+        put-join,
+        ← at-head .head .ensures,
+        ← at-verdict .verdict .ensures,
+        ← at-own .own .ensures .0,
+        ← at-lists .lists .ensures,
+        ← at-agreed .agreed .ensures,
+      ) (c .counters .ensures),
+      report-length r (sized c),
+    )
 
 pub json-spec : {M : Type 1} → statement M
 json-spec =
     tie.close
-    (tie.spec (search needs) (search needs) (search needs) (search needs) (search needs) (search needs) (search needs)
-    returns)
+    (tie.spec (search needs) (search needs) (search needs) (search needs) (search needs) (search needs) returns)

@@ -8,18 +8,9 @@ use Rattle.desync.proofs.DesyncReport.lists.Tie as tie
 returns : tie.Need-returns
 unfolding listsText
 returns c =
-    let dissent = c .before .before .before in
-    rw (
-      put-join,
-      c .peers .ensures,
-      c .before .piece2 .ensures,
-      dissent .seat-list .ensures,
-      dissent .before .dissenters .ensures,
-      dissent .before .before .piece .ensures,
-    )
+    let at-seat-list = c .before .before .before in
+    let at-dissenters = at-seat-list .before in
+    rw (put-join, ← at-dissenters .dissenters .ensures, ← at-seat-list .seat-list .ensures) (c .peers .ensures)
 
 pub lists-spec : {M : Type 1} → statement M
-lists-spec =
-    tie.close
-    (tie.spec (search needs) (search needs) (search needs) (search needs) (search needs) (search needs) (search needs)
-    returns)
+lists-spec = tie.close (tie.spec (search needs) (search needs) (search needs) (search needs) (search needs) returns)

@@ -8,10 +8,10 @@ use Rattle.desync.proofs.DesyncReport.own.Tie as tie
 returns : tie.Need-returns
 unfolding ownText
 returns c =
-    let input = c .before .before in (
-      rw (put-join, c .last-tick .ensures .0, input .digest2 .ensures, input .before .before .digest .ensures),
-      c .last-tick .ensures .1,
-    )
+    let at-digest2 = c .before .before .before in
+    let at-digest = at-digest2 .before .before .before in
+    let last = c .last-tick .ensures in
+    (rw (put-join, ← at-digest .digest .ensures, ← at-digest2 .digest2 .ensures) (last .0), last .1)
 
 pub own-spec : {M : Type 1} → statement M
 own-spec =

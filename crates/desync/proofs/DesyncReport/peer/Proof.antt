@@ -8,17 +8,17 @@ use Rattle.desync.proofs.DesyncReport.peer.Tie as tie
 returns : tie.Need-returns
 unfolding peerText
 returns c =
-    let input = c .before .before in
-    let state = input .before .before in
-    let seat = state .before .before in
+    let at-seat-digest2 = c .before .before .before in
+    let at-seat-digest = at-seat-digest2 .before .before .before in
+    let at-number = at-seat-digest .before .before .before in
+    let at-comma = at-number .before .before .before in
     rw (
       put-join,
-      c .piece .ensures,
-      input .seat-digest2 .ensures,
-      state .seat-digest .ensures,
-      seat .number .ensures,
-      seat .before .before .comma .ensures,
-    )
+      ← at-comma .comma .ensures,
+      ← at-number .number .ensures,
+      ← at-seat-digest .seat-digest .ensures,
+      ← at-seat-digest2 .seat-digest2 .ensures,
+    ) (c .piece .ensures)
 
 pub peer-spec : {M : Type 1} → statement M
 peer-spec =

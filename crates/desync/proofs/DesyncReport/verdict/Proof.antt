@@ -8,14 +8,15 @@ use Rattle.desync.proofs.DesyncReport.verdict.Tie as tie
 returns : tie.Need-returns
 unfolding verdictText
 returns c =
-    let agree = c .before .before .before in
+    let at-witnessed = c .before in
+    let at-flag = at-witnessed .before .before .before in
+    let at-inputs-agree = at-flag .before in
     rw (
       put-join,
-      c .flag2 .ensures,
-      c .before .witnessed .ensures,
-      agree .flag .ensures,
-      agree .before .inputs-agree .ensures,
-    )
+      ← at-inputs-agree .inputs-agree .ensures,
+      ← at-flag .flag .ensures,
+      ← at-witnessed .witnessed .ensures,
+    ) (c .flag2 .ensures)
 
 pub verdict-spec : {M : Type 1} → statement M
 verdict-spec =

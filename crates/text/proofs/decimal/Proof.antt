@@ -1,4 +1,4 @@
--- `text::Text::decimal` meets its contract: the digits go into `d` from the back. Assumes nothing.
+-- `text::decimal` meets its contract: the digits go into `d` from the back. Assumes nothing.
 use Prim.Native.Nat.{suc, _+_, _-_, _<_, _^_}
 use mathlib.Core.Path.{_≡_, refl, sym, _∙_}
 use mathlib.Core.List.{_++_, append-nil}
@@ -7,15 +7,15 @@ use lib.ListN.{length, take, drop, set, length-set}
 use borrow.Author.Needs.{needs}
 use Rattle.text.specs.Decimal.{decimal}
 use Rattle.text.proofs.Loops.{tenth, decimal-back, decimal-front}
-use Rattle.text.proofs.Text.decimal.Statement.{statement}
-use Rattle.text.proofs.Text.decimal.Tie as tie
+use Rattle.text.proofs.decimal.Statement.{statement}
+use Rattle.text.proofs.decimal.Tie as tie
 
 abbrev Inv-loop : tie.InvT-loop
-Inv-loop self n d₀ i₀ m₀ d i m =
+Inv-loop out at n d₀ i₀ m₀ d i m =
     (length d ≡ 20) × (i < 20) × (m < 10 ^ suc i) × (decimal n ≡ decimal m ++ drop (i + 1) d)
 
 abbrev μ-loop : tie.MeasureT-loop
-μ-loop self n d₀ i₀ m₀ d i m = m
+μ-loop out at n d₀ i₀ m₀ d i m = m
 
 loop-holds : tie.Need-loop-holds Inv-loop μ-loop
 loop-holds c = (refl, omega arith, omega arith, sym (append-nil _))
@@ -39,9 +39,9 @@ part-piece-end c = simp length-set (omega arith)
 
 returns : tie.Need-returns Inv-loop μ-loop
 returns c =
-    let l = c .before .before .before .before .loop in
+    let l = c .before .before .before .before .before .loop in
     let e : take (20 - l .i) (drop (l .i) (set (l .d) (l .i) (48 + l .m)))
-    ≡ decimal (c .before .before .before .before .before .args .n) =
+    ≡ decimal (c .before .before .before .before .before .before .args .n) =
     decimal-front (l .d) (l .i) (l .m) (l .inv .0) (omega arith) (omega arith) ∙ sym (l .inv .3) in
     rw (← e) (c .piece .ensures)
 

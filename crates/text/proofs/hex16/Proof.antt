@@ -1,4 +1,4 @@
--- `text::Text::hex16` meets its contract: the digits go into `d` from the back. Assumes nothing.
+-- `text::hex16` meets its contract: the digits go into `d` from the back. Assumes nothing.
 use Prim.Native.Nat.{_≤_}
 use mathlib.Core.Path.{_≡_, refl, sym, _∙_}
 use mathlib.Core.List.{_++_, append-nil}
@@ -7,14 +7,14 @@ use lib.ListN.{length, drop, length-set}
 use borrow.Author.Needs.{needs}
 use Rattle.text.specs.Hex.{hexDigits}
 use Rattle.text.proofs.Loops.{hex-back, hex-done}
-use Rattle.text.proofs.Text.hex16.Statement.{statement}
-use Rattle.text.proofs.Text.hex16.Tie as tie
+use Rattle.text.proofs.hex16.Statement.{statement}
+use Rattle.text.proofs.hex16.Tie as tie
 
 abbrev Inv-loop : tie.InvT-loop
-Inv-loop self n d₀ i₀ m₀ d i m = (length d ≡ 16) × (i ≤ 16) × (hexDigits 16 n ≡ hexDigits i m ++ drop i d)
+Inv-loop out at n d₀ i₀ m₀ d i m = (length d ≡ 16) × (i ≤ 16) × (hexDigits 16 n ≡ hexDigits i m ++ drop i d)
 
 abbrev μ-loop : tie.MeasureT-loop
-μ-loop self n d₀ i₀ m₀ d i m = i
+μ-loop out at n d₀ i₀ m₀ d i m = i
 
 loop-holds : tie.Need-loop-holds Inv-loop μ-loop
 loop-holds c = (refl, search needs, sym (append-nil _))
@@ -29,7 +29,7 @@ loop-again c =
 
 returns : tie.Need-returns Inv-loop μ-loop
 returns c =
-    let l = c .before .before .before .loop in
+    let l = c .before .before .before .before .loop in
     rw (l .inv .2, hex-done (l .d) (l .i) (l .m) (omega arith)) (c .piece .ensures)
 
 pub hex16-spec : {M : Type 1} → statement M
