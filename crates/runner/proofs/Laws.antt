@@ -1,20 +1,22 @@
 -- Laws of reading a script: in how many pieces its bytes come does not matter, a whole record is run once, and one that
 -- is not whole waits. By these a loop that runs the records at hand one by one, and keeps the rest, reads the script as
 -- the definition does. Assumes nothing.
-use Prim.Native.Nat.{ℕ, suc, _<_}
+use Prim.Native.Nat.{ℕ, suc, _<_, _≤_}
 use mathlib.Core.Path.{_≡_, refl, sym, _∙_}
 use mathlib.Core.Bool.{Bool, true, false}
 use mathlib.Core.List.{List, [], _∷_, _++_, append-assoc, append-nil}
 use native.Mathlib.Omega.{arith}
 use borrow.Author.Tests.{eq-eqb, ne-eqb}
 use lib.Dec.{eqb}
-use lib.ListN.{length, take, getD}
+use lib.ListN.{length, take, getD, length-append}
 use lib.Seq.{take-suc}
 use Rattle.logic.proofs.Cases.{if-true, if-false}
+use Rattle.text.specs.Text.{textLimit, page, put}
+use Rattle.text.proofs.Writing.{put-append, put-one}
+use Rattle.lines.specs.Lines.{Says}
 use Rattle.session.specs.declared.Session.{Session}
 use Rattle.script.specs.Records.{recordSize}
 use Rattle.script.proofs.Laws.{part-before, whole-before}
-use Rattle.runner.specs.declared.Ran.{Ran}
 use Rattle.runner.specs.Runner.{Prints, runRecord, recordLines}
 use Rattle.runner.specs.Script.{Reading, hold, takeIn, reading}
 
@@ -25,7 +27,7 @@ reading-append traced r [] ys = refl
 reading-append traced r (x ∷ xs) ys = reading-append traced (takeIn traced r x) xs ys
 
 -- bytes that complete no record only add to the one that has begun
-waits : (traced : Bool) (s : Session) (said p xs : List ℕ)
+pub waits : (traced : Bool) (s : Session) (said p xs : List ℕ)
     → ((k : ℕ) → k < length xs → recordSize (p ++ take (suc k) xs) ≡ 0)
     → reading traced (record { session = s; begun = p; said = said }) xs
     ≡ record { session = s; begun = p ++ xs; said = said }
@@ -68,7 +70,14 @@ module _ (traced : Bool) (s : Session) (said bytes : List ℕ) where
         reading-part traced s said (take n bytes) (at .0),
       ) (if-false _ _ some)
 
--- the promise of a record fixes the session and the text: two answers that meet it are equal
-pub prints-one : {s : Session} {lines : List ℕ} {r q : Ran} → Prints s lines r → Prints s lines q
-    → (r .session ≡ q .session) × (r .line ≡ q .line)
-prints-one x y = (x .next ∙ sym (y .next), x .wrote ∙ sym (y .wrote))
+-- a line, and what the trace form shows behind it
+pub shown-behind : {line before first second : List ℕ} {n m : ℕ} (shown : List ℕ) → Says line before first n
+    → page second m ≡ put (page first n) shown → length shown ≤ 400
+    → (page second m ≡ put (page before 0) (line ++ shown)) × (length (line ++ shown) ≤ textLimit)
+shown-behind shown says behind short =
+    (rw (put-append, ← says .said) behind, rw length-append (omega (arith, says .fits)))
+
+-- the promise of a record fixes the session, the length and every lent byte: two answers that meet it are equal
+pub prints-one : {s a b : Session} {lines before x y : List ℕ} {m n : ℕ} → Prints s lines a before x m
+    → Prints s lines b before y n → (a ≡ b) × (m ≡ n) × (x ≡ y)
+prints-one p q = let text = put-one (p .wrote) (q .wrote) in (p .next ∙ sym (q .next), text .0, text .1)

@@ -6,13 +6,14 @@ use mathlib.Core.Bool.{Bool, not, _||_}
 use mathlib.Core.List.{List, [], _++_}
 use lib.Dec.{eqb}
 use lib.ListN.{length}
-use Rattle.text.specs.Text.{textLimit, freshText, put}
+use Rattle.text.specs.Text.{textLimit, page, put}
 use Rattle.logic.specs.Test.{if_then_else_}
 use Rattle.params.specs.Params.{validity, badState}
 use Rattle.params.specs.declared.SessionParams.{SessionParams}
 use Rattle.session.specs.Session.{fresh, isPlaying}
 use Rattle.session.specs.Host.{submit, leave}
 use Rattle.session.specs.Step.{advance, commit}
+use Rattle.session.specs.declared.Head.{Head}
 use Rattle.session.specs.declared.Session.{Session}
 use Rattle.session.specs.declared.WorldDigest.{WorldDigest}
 use Rattle.session.specs.declared.WorldDigest.the-variants.{Absent, Present}
@@ -28,12 +29,11 @@ use Rattle.script.specs.Records.{asked, restOf}
 use Rattle.lines.specs.Lines.{Says, openLine, submitLine, deliverLine, advanceLine}
 use Rattle.lines.specs.Lines.{commitLine, leaveLine, reportLine, badLine, noneLine, cutLine}
 use Rattle.trace_text.specs.Trace.{sendLines, stateLine}
-use Rattle.runner.specs.declared.Ran.{Ran}
 
--- the session that stands, and a text that says the line
-pub record Runs (session : Session) (line : List ℕ) (r : Ran) : Type 0 where
-  pub next : r .session ≡ session
-  pub says : Says line (r .line)
+-- the session that stands is this one, and the line is at the front of the buffer
+pub record Runs (session : Session) (line : List ℕ) (after : Session) (before buffer : List ℕ) (n : ℕ) : Type 0 where
+  pub next : after ≡ session
+  pub says : Says line before buffer n
 
 -- before a good open stands what no open takes
 unfoldable pub noParams : SessionParams
@@ -76,33 +76,36 @@ lineOf s Report bytes traced = reportLine (desyncReport s .answer) (desyncReport
 unfoldable pub runAsked : Session → Asked → List ℕ → Session
 runAsked s Bad bytes = s
 runAsked s (Open p) bytes = runOpen s p
-runAsked s (Of call) bytes = if badState (s .params) then s else nextOf s call bytes
+runAsked s (Of call) bytes = if badState (s .head .params) then s else nextOf s call bytes
 
 unfoldable pub askedLine : Session → Asked → List ℕ → Bool → List ℕ
 askedLine s Bad bytes traced = badLine
 askedLine s (Open p) bytes traced = openLineOf p
-askedLine s (Of call) bytes traced = if badState (s .params) then noneLine else lineOf s call bytes traced
+askedLine s (Of call) bytes traced = if badState (s .head .params) then noneLine else lineOf s call bytes traced
 
 -- ---- one record
 
 -- in the trace form, what the session shows, once there is one
-unfoldable pub shownLine : Session → Bool → List ℕ
-shownLine s traced =
-    if not traced || badState (s .params) then []
-    else stateLine (s .stats) (s .pending) (s .next) (isPlaying s) (wantsLocal s) (s .digest) (s .outcome)
+unfoldable pub shownLine : Head → Bool → List ℕ
+shownLine h traced =
+    if not traced || badState (h .params) then []
+    else
+    stateLine (h .stats) (h .play .pending) (h .play .«next_local») (isPlaying h) (wantsLocal h) (h .play .digest)
+    (h .outcome)
 
 unfoldable pub runRecord : Session → List ℕ → Session
 runRecord s r = runAsked s (asked r) (restOf r)
 
 unfoldable pub recordLines : Session → List ℕ → Bool → List ℕ
-recordLines s r traced = askedLine s (asked r) (restOf r) traced ++ shownLine (runRecord s r) traced
+recordLines s r traced = askedLine s (asked r) (restOf r) traced ++ shownLine (runRecord s r .head) traced
 
--- the session that stands, and a text that is the lines, whole
-pub record Prints (session : Session) (lines : List ℕ) (r : Ran) : Type 0 where
-  pub next : r .session ≡ session
-  pub wrote : r .line ≡ put freshText lines
+-- the session that stands is this one, and the lines, whole, are at the front of the buffer, the bytes past them as
+-- they were
+pub record Prints (session : Session) (lines : List ℕ) (after : Session) (before buffer : List ℕ) (n : ℕ) : Type 0 where
+  pub next : after ≡ session
+  pub wrote : page buffer n ≡ put (page before 0) lines
   pub fits : length lines ≤ textLimit
 
 -- "A record cut by the end, of any kind, prints `cut`": one of which some bytes are there, and not all
-unfoldable pub endLines : Session → ℕ → Bool → List ℕ
-endLines s begun traced = if eqb begun 0 then [] else cutLine ++ shownLine s traced
+unfoldable pub endLines : Head → ℕ → Bool → List ℕ
+endLines h begun traced = if eqb begun 0 then [] else cutLine ++ shownLine h traced

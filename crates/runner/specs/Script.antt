@@ -39,7 +39,7 @@ from s = record { session = s; begun = []; said = [] }
 
 -- what a script prints in all: the lines of its records, and `cut` where the last is not whole
 unfoldable pub closing : Bool → Reading → List ℕ
-closing traced r = r .said ++ endLines (r .session) (length (r .begun)) traced
+closing traced r = r .said ++ endLines (r .session .head) (length (r .begun)) traced
 
 unfoldable pub scriptLines : Bool → List ℕ → List ℕ
 scriptLines traced script = closing traced (reading traced (from (fresh noParams)) script)

@@ -1,29 +1,31 @@
-// The script runner: one record in, its line out, and the session that stands after it. The programs add reading and
-// writing, nothing else.
+// The script runner: one record in, its lines out, and the session that stands after it. The session's arrays and the
+// buffer for the lines are lent. The programs add reading and writing, nothing else.
 ghost use Prim.Native.Nat.{_≤_};
 ghost use mathlib.Core.Path.{_≡_};
 ghost use lib.ListN.{length};
-ghost use Rattle.text.specs.Text.{textLimit, freshText, put};
-ghost use Rattle.session.specs.Session.{fresh};
+ghost use Rattle.window.specs.Window.{windowOf};
+ghost use Rattle.fingerprint.specs.Cells.{printsOf};
+ghost use Rattle.text.specs.Text.{textLimit, page, put};
+ghost use Rattle.session.specs.Session.{fresh, sessionOf};
 ghost use Rattle.runner.specs.Runner.{noParams, worldOf, Runs, runOpen, openLineOf, nextOf, lineOf, runAsked};
 ghost use Rattle.runner.specs.Runner.{askedLine, shownLine, Prints, runRecord, recordLines, endLines};
 use params::SessionParams;
 use script::Asked;
 use script::Call;
-use session::Session;
+use session::Head;
 use session::WorldDigest;
-use text::Text;
 
+// What a record came to: the head that stands, and how many bytes its lines have.
 pub struct Ran {
-    pub session: Session,
-    pub line: Text,
+    pub head: Head,
+    pub size: usize,
 }
 
-// What stands before a good open: a session over parameters that no open takes.
-pub fn no_session() -> Session
-    ensures { λ r. ⌜ r ≡ fresh noParams ⌝ }
+// Parameters that no open takes.
+fn no_params() -> SessionParams
+    ensures { λ r. ⌜ r ≡ noParams ⌝ }
 {
-    let opened = Session::open(SessionParams {
+    SessionParams {
         count: 0,
         local: 0,
         width: 0,
@@ -33,8 +35,34 @@ pub fn no_session() -> Session
         content: 0,
         rules: 0,
         session: 0,
-    });
-    opened.session
+    }
+}
+
+// What stands before a good open: a session over such parameters.
+pub fn start(
+    ring: &mut [u8; window::RING],
+    ticks: &mut [u64; window::SLOTS],
+    present: &mut [peer::Bits; window::SLOTS],
+    held: &mut [bool; fingerprint::CELLS],
+    printed: &mut [u64; fingerprint::CELLS],
+    states: &mut [u64; fingerprint::CELLS],
+    inputs: &mut [u64; fingerprint::CELLS],
+) -> Head
+    ensures { λ r. ⌜ sessionOf r (windowOf (now (ring .exit)) (now (ticks .exit)) (now (present .exit)))
+        (printsOf (now (held .exit)) (now (printed .exit)) (now (states .exit)) (now (inputs .exit)))
+        ≡ fresh noParams ⌝ }
+{
+    let opened = Head::open(
+        no_params(),
+        ring,
+        ticks,
+        present,
+        held,
+        printed,
+        states,
+        inputs,
+    );
+    opened.head
 }
 
 fn world(flag: u8, digest: u64) -> WorldDigest
@@ -47,169 +75,294 @@ fn world(flag: u8, digest: u64) -> WorldDigest
 }
 
 // A good open replaces the session, a refused one leaves it.
-fn run_open(s: Session, params: SessionParams) -> Ran
-    ensures { λ r. ⌜ Runs (runOpen s params) (openLineOf params) r ⌝ }
+fn run_open(
+    h: Head,
+    ring: &mut [u8; window::RING],
+    ticks: &mut [u64; window::SLOTS],
+    present: &mut [peer::Bits; window::SLOTS],
+    held: &mut [bool; fingerprint::CELLS],
+    printed: &mut [u64; fingerprint::CELLS],
+    states: &mut [u64; fingerprint::CELLS],
+    inputs: &mut [u64; fingerprint::CELLS],
+    out: &mut [u8; text::LIMIT],
+    params: SessionParams,
+) -> Ran
+    ensures { λ r. ⌜ Runs
+        (runOpen (sessionOf h (windowOf (now (ring .entry)) (now (ticks .entry)) (now (present .entry)))
+        (printsOf (now (held .entry)) (now (printed .entry)) (now (states .entry)) (now (inputs .entry))))
+        params) (openLineOf params)
+        (sessionOf (r .head) (windowOf (now (ring .exit)) (now (ticks .exit)) (now (present .exit)))
+        (printsOf (now (held .exit)) (now (printed .exit)) (now (states .exit)) (now (inputs .exit))))
+        (now (out .entry)) (now (out .exit)) (r .size) ⌝ }
 {
-    let opened = Session::open(params);
-    let answer = opened.answer;
-    let line = lines::open_line(answer);
-    if answer.number() == 0 {
-        let session = opened.session;
+    let answer = params.validate();
+    let size = lines::open_line(out, answer);
+    if params.bad_state() {
         return Ran {
-            session: session,
-            line: line,
+            head: h,
+            size: size,
         };
     }
+    let opened = Head::open(params, ring, ticks, present, held, printed, states, inputs);
+    let head = opened.head;
     Ran {
-        session: s,
-        line: line,
+        head: head,
+        size: size,
     }
 }
 
-fn run_call(s: Session, call: Call, bytes: &[u8], traced: bool) -> Ran
-    ensures { λ r. ⌜ Runs (nextOf s call (now (bytes .entry))) (lineOf s call (now (bytes .entry)) traced) r ⌝ }
+fn run_call(
+    h: Head,
+    ring: &mut [u8; window::RING],
+    ticks: &mut [u64; window::SLOTS],
+    present: &mut [peer::Bits; window::SLOTS],
+    held: &mut [bool; fingerprint::CELLS],
+    printed: &mut [u64; fingerprint::CELLS],
+    states: &mut [u64; fingerprint::CELLS],
+    inputs: &mut [u64; fingerprint::CELLS],
+    out: &mut [u8; text::LIMIT],
+    call: Call,
+    bytes: &[u8],
+    traced: bool,
+) -> Ran
+    ensures { λ r. ⌜ Runs
+        (nextOf (sessionOf h (windowOf (now (ring .entry)) (now (ticks .entry)) (now (present .entry)))
+        (printsOf (now (held .entry)) (now (printed .entry)) (now (states .entry)) (now (inputs .entry))))
+        call (now (bytes .entry)))
+        (lineOf (sessionOf h (windowOf (now (ring .entry)) (now (ticks .entry)) (now (present .entry)))
+        (printsOf (now (held .entry)) (now (printed .entry)) (now (states .entry)) (now (inputs .entry))))
+        call (now (bytes .entry)) traced)
+        (sessionOf (r .head) (windowOf (now (ring .exit)) (now (ticks .exit)) (now (present .exit)))
+        (printsOf (now (held .exit)) (now (printed .exit)) (now (states .exit)) (now (inputs .exit))))
+        (now (out .entry)) (now (out .exit)) (r .size) ⌝ }
 {
     match call {
         Call::Submit => {
-            let r = s.submit(bytes);
+            let r = h.submit(ring, ticks, present, bytes);
             let answer = r.answer;
-            let session = r.session;
+            let head = r.head;
             Ran {
-                session: session,
-                line: lines::submit_line(answer),
+                head: head,
+                size: lines::submit_line(out, answer),
             }
         }
         Call::Deliver { source, message } => {
-            let r = deliver::deliver(s, source, message, bytes);
+            let r = deliver::deliver_in(
+                h,
+                ring,
+                ticks,
+                present,
+                held,
+                printed,
+                states,
+                inputs,
+                source,
+                message,
+                bytes,
+            );
             let answer = r.answer;
-            let session = r.session;
+            let head = r.head;
             Ran {
-                session: session,
-                line: lines::deliver_line(answer),
+                head: head,
+                size: lines::deliver_line(out, answer),
             }
         }
         Call::Advance => {
-            let r = s.advance();
+            let r = h.advance(ring, ticks, present);
             let answer = r.answer;
-            let session = r.session;
+            let head = r.head;
             Ran {
-                session: session,
-                line: lines::advance_line(answer, r.frames),
+                head: head,
+                size: lines::advance_line(out, answer, r.frames),
             }
         }
         Call::Commit { tick, flag, digest } => {
-            let r = s.commit(tick, world(flag, digest));
+            let r = h.commit(held, printed, states, inputs, tick, world(flag, digest));
             let answer = r.answer;
-            let session = r.session;
+            let head = r.head;
             Ran {
-                session: session,
-                line: lines::commit_line(answer),
+                head: head,
+                size: lines::commit_line(out, answer),
             }
         }
         Call::Leave => {
-            let r = s.leave();
+            let r = h.leave();
             let answer = r.answer;
-            let session = r.session;
+            let head = r.head;
             Ran {
-                session: session,
-                line: lines::leave_line(answer),
+                head: head,
+                size: lines::leave_line(out, answer),
             }
         }
         Call::Pump => {
-            let r = pump::next_outbound(s);
+            let r = pump::next_outbound_in(h, ring, ticks, present);
             let answer = r.answer;
-            let session = r.session;
+            let head = r.head;
             let run = r.run;
             Ran {
-                session: session,
-                line: trace_text::send_lines(answer, run, traced),
+                head: head,
+                size: trace_text::send_lines(out, answer, run, traced),
             }
         }
         Call::Report => {
-            let r = desync::desync_report(s);
+            let r = desync::desync_report_in(h, held, printed, states, inputs);
             let answer = r.answer;
             let report = r.report;
             Ran {
-                session: s,
-                line: lines::report_line(answer, report),
+                head: h,
+                size: lines::report_line(out, answer, report),
             }
         }
     }
 }
 
 // Before a good open only an open does anything.
-fn run_asked(s: Session, asked: Asked, bytes: &[u8], traced: bool) -> Ran
-    ensures { λ r. ⌜ Runs (runAsked s asked (now (bytes .entry))) (askedLine s asked (now (bytes .entry)) traced) r ⌝ }
+fn run_asked(
+    h: Head,
+    ring: &mut [u8; window::RING],
+    ticks: &mut [u64; window::SLOTS],
+    present: &mut [peer::Bits; window::SLOTS],
+    held: &mut [bool; fingerprint::CELLS],
+    printed: &mut [u64; fingerprint::CELLS],
+    states: &mut [u64; fingerprint::CELLS],
+    inputs: &mut [u64; fingerprint::CELLS],
+    out: &mut [u8; text::LIMIT],
+    asked: Asked,
+    bytes: &[u8],
+    traced: bool,
+) -> Ran
+    ensures { λ r. ⌜ Runs
+        (runAsked (sessionOf h (windowOf (now (ring .entry)) (now (ticks .entry)) (now (present .entry)))
+        (printsOf (now (held .entry)) (now (printed .entry)) (now (states .entry)) (now (inputs .entry))))
+        asked (now (bytes .entry)))
+        (askedLine (sessionOf h (windowOf (now (ring .entry)) (now (ticks .entry)) (now (present .entry)))
+        (printsOf (now (held .entry)) (now (printed .entry)) (now (states .entry)) (now (inputs .entry))))
+        asked (now (bytes .entry)) traced)
+        (sessionOf (r .head) (windowOf (now (ring .exit)) (now (ticks .exit)) (now (present .exit)))
+        (printsOf (now (held .exit)) (now (printed .exit)) (now (states .exit)) (now (inputs .exit))))
+        (now (out .entry)) (now (out .exit)) (r .size) ⌝ }
 {
     match asked {
         Asked::Bad => Ran {
-            session: s,
-            line: lines::bad_line(),
+            head: h,
+            size: lines::bad_line(out),
         },
-        Asked::Open(params) => run_open(s, params),
+        Asked::Open(params) => run_open(
+            h,
+            ring,
+            ticks,
+            present,
+            held,
+            printed,
+            states,
+            inputs,
+            out,
+            params,
+        ),
         Asked::Of(call) => {
-            if s.params.bad_state() {
+            if h.params.bad_state() {
                 return Ran {
-                    session: s,
-                    line: lines::none_line(),
+                    head: h,
+                    size: lines::none_line(out),
                 };
             }
-            run_call(s, call, bytes, traced)
+            run_call(
+                h,
+                ring,
+                ticks,
+                present,
+                held,
+                printed,
+                states,
+                inputs,
+                out,
+                call,
+                bytes,
+                traced,
+            )
         }
     }
 }
 
-// A line and, in the trace form, what the session shows, once there is one.
-fn show(ran: Ran, traced: bool) -> Text
-    ensures { λ r. ⌜ r ≡ put (ran .line) (shownLine (ran .session) traced) ⌝ }
-    ensures { λ _. ⌜ length (shownLine (ran .session) traced) ≤ 400 ⌝ }
+// In the trace form, what the session shows, once there is one, behind the line that stands.
+fn show(h: Head, out: &mut [u8; text::LIMIT], at: usize, traced: bool) -> usize
+    ensures { λ r. ⌜ page (now (out .exit)) r ≡ put (page (now (out .entry)) at) (shownLine h traced) ⌝ }
+    ensures { λ _. ⌜ length (shownLine h traced) ≤ 400 ⌝ }
 {
-    let line = ran.line;
-    let s = ran.session;
     if !traced {
-        return line;
+        return text::piece(out, at, b"");
     }
-    if s.params.bad_state() {
-        return line;
+    if h.params.bad_state() {
+        return text::piece(out, at, b"");
     }
-    let outcome = s.outcome;
+    let outcome = h.outcome;
     trace_text::state_line(
-        line,
-        s.stats,
-        s.pending,
-        s.next,
-        shown::is_playing(s),
-        shown::wants_local(s),
-        s.digest,
+        out,
+        at,
+        h.stats,
+        h.play.pending,
+        h.play.next_local,
+        shown::is_playing(h),
+        shown::wants_local(h),
+        h.play.digest,
         outcome,
     )
 }
 
 // One whole record.
-pub fn run_record(s: Session, record: &[u8], traced: bool) -> Ran
-    ensures { λ r. ⌜ Prints (runRecord s (now («record» .entry))) (recordLines s (now («record» .entry)) traced) r ⌝ }
+pub fn run_record(
+    h: Head,
+    ring: &mut [u8; window::RING],
+    ticks: &mut [u64; window::SLOTS],
+    present: &mut [peer::Bits; window::SLOTS],
+    held: &mut [bool; fingerprint::CELLS],
+    printed: &mut [u64; fingerprint::CELLS],
+    states: &mut [u64; fingerprint::CELLS],
+    inputs: &mut [u64; fingerprint::CELLS],
+    out: &mut [u8; text::LIMIT],
+    record: &[u8],
+    traced: bool,
+) -> Ran
+    ensures { λ r. ⌜ Prints
+        (runRecord (sessionOf h (windowOf (now (ring .entry)) (now (ticks .entry)) (now (present .entry)))
+        (printsOf (now (held .entry)) (now (printed .entry)) (now (states .entry)) (now (inputs .entry))))
+        (now («record» .entry)))
+        (recordLines (sessionOf h (windowOf (now (ring .entry)) (now (ticks .entry)) (now (present .entry)))
+        (printsOf (now (held .entry)) (now (printed .entry)) (now (states .entry)) (now (inputs .entry))))
+        (now («record» .entry)) traced)
+        (sessionOf (r .head) (windowOf (now (ring .exit)) (now (ticks .exit)) (now (present .exit)))
+        (printsOf (now (held .exit)) (now (printed .exit)) (now (states .exit)) (now (inputs .exit))))
+        (now (out .entry)) (now (out .exit)) (r .size) ⌝ }
 {
-    let ran = run_asked(s, script::asked_by(record), script::rest_of(record), traced);
-    let session = ran.session;
+    let ran = run_asked(
+        h,
+        ring,
+        ticks,
+        present,
+        held,
+        printed,
+        states,
+        inputs,
+        out,
+        script::asked_by(record),
+        script::rest_of(record),
+        traced,
+    );
+    let head = ran.head;
     Ran {
-        session: session,
-        line: show(ran, traced),
+        head: head,
+        size: show(head, out, ran.size, traced),
     }
 }
 
 // What a script ends in: a record that has begun and is not whole is cut.
-pub fn end_lines(s: Session, begun: usize, traced: bool) -> Text
-    ensures { λ r. ⌜ r ≡ put freshText (endLines s begun traced) ⌝ }
-    ensures { λ _. ⌜ length (endLines s begun traced) ≤ textLimit ⌝ }
+pub fn end_lines(h: Head, out: &mut [u8; text::LIMIT], begun: usize, traced: bool) -> usize
+    ensures { λ r. ⌜ page (now (out .exit)) r ≡ put (page (now (out .entry)) 0) (endLines h begun traced) ⌝ }
+    ensures { λ _. ⌜ length (endLines h begun traced) ≤ textLimit ⌝ }
 {
     if begun == 0 {
-        return Text::new();
+        return 0;
     }
-    show(
-        Ran {
-            session: s,
-            line: lines::cut_line(),
-        },
-        traced,
-    )
+    let size = lines::cut_line(out);
+    show(h, out, size, traced)
 }

@@ -2,15 +2,15 @@
 -- Assumes nothing.
 use Prim.Native.Nat.{ℕ, zero, suc, _+_, _-_, _*_, _^_, _≤_, _<_}
 use mathlib.Core.Path.{_≡_, refl, _∙_}
-use mathlib.Core.List.{List, [], _∷_}
+use mathlib.Core.List.{List, [], _∷_, _++_}
 use native.Mathlib.Numerals.{add-one}
 use native.Mathlib.Omega.{arith}
 use borrow.Author.Tests.{lt-ltb, le-ltb}
-use lib.ListN.{length, take, drop, length-drop, length-take}
+use lib.ListN.{length, take, drop, length-append, length-drop, length-take, List·getD-append}
 use lib.Seq.{take-all, getD-take}
 use lib.Pow.{pow-add, pow-mono}
 use Rattle.logic.proofs.Cases.{byTest, caseLt, if-true, if-false}
-use Rattle.script.specs.Records.{u8, u16, le, header, recordSize, restStart}
+use Rattle.script.specs.Records.{u8, u16, le, header, longest, recordSize, recordLacks, restStart}
 
 -- one byte more in front: of the n bytes from a place on, those from the i-th on are read
 pub le-more : (p : List ℕ) (place i n : ℕ) → 0 < i → i ≤ n
@@ -95,3 +95,45 @@ whole-before bytes k h =
     (λ l.
     let e = size-whole bytes l in
     (size-before bytes k (omega (arith, e, h)), rw e (size-at bytes l), omega (arith, e)))
+
+-- ---- what a record waits for
+
+module _ (bytes : List ℕ) where
+  lacks-header : length bytes < header → recordLacks bytes ≡ header - length bytes
+  unfolding recordLacks
+  lacks-header l = if-true _ _ (lt-ltb _ _ l)
+
+  lacks-payload : header ≤ length bytes → recordLacks bytes ≡ header + u16 bytes 0 - length bytes
+  unfolding recordLacks
+  lacks-payload l = if-false _ _ (le-ltb _ _ l)
+
+  -- where the record is not whole, for a byte at least
+  pub lacks-some : recordSize bytes ≡ 0 → 0 < recordLacks bytes
+  lacks-some e =
+      caseLt (length bytes) header (λ few. omega (arith, lacks-header few)) (λ enough.
+      caseLt (length bytes) (header + u16 bytes 0) (λ part. omega (arith, lacks-payload enough))
+      (λ whole. absurd (omega (arith, size-whole bytes whole, e))))
+
+  -- the header stays as it is
+  head-kept : (more : List ℕ) → header ≤ length bytes → u16 (bytes ++ more) 0 ≡ u16 bytes 0
+  unfolding le
+  head-kept more l =
+      rw (List·getD-append bytes more 0 0 (omega arith), List·getD-append bytes more 0 1 (omega arith))
+
+  -- with fewer than it waits for it is not whole
+  pub lacks-part : (more : List ℕ) → length more < recordLacks bytes → recordSize (bytes ++ more) ≡ 0
+  lacks-part more h =
+      caseLt (length bytes) header
+      (λ few. size-part (bytes ++ more) (rw length-append (omega (arith, lacks-header few, h))))
+      (λ enough.
+      size-part (bytes ++ more) (rw (length-append, head-kept more enough) (omega (arith, lacks-payload enough, h))))
+
+  -- and one that is not whole after that is shorter than the longest
+  pub lacks-short : (more : List ℕ) → length more ≤ recordLacks bytes → length bytes + recordLacks bytes ≤ longest
+      → recordSize (bytes ++ more) ≡ 0 → length bytes + length more < longest
+  lacks-short more h room e =
+      caseLt (length bytes) header (λ few. omega (arith, lacks-header few)) (λ enough.
+      caseLt (length more) (recordLacks bytes) (λ less. omega arith) (λ all.
+      let whole = size-whole (bytes ++ more)
+      (rw (length-append, head-kept more enough) (omega (arith, lacks-payload enough, all))) in
+      absurd (omega (arith, whole, e))))

@@ -1,7 +1,7 @@
 -- Document 01, "The script runner `circle`": "records: u16 payload length, u16 kind, payload, little-endian. Payload
 -- fields are u64, but one byte for seats, the flag and what is u8 in the Rust", and the kinds 1 to 12 with their
 -- payloads. Assumes nothing.
-use Prim.Native.Nat.{ℕ, zero, suc, _+_, _*_, min}
+use Prim.Native.Nat.{ℕ, zero, suc, _+_, _-_, _*_, min}
 use mathlib.Core.Bool.{Bool, true, false, not, _&&_}
 use mathlib.Core.List.{List}
 use lib.Dec.{eqb, ltb, leb}
@@ -48,6 +48,12 @@ recordSize bytes =
     if ltb (length bytes) header then 0
     else if ltb (length bytes) (header + u16 bytes 0) then 0
     else header + u16 bytes 0
+
+-- how many bytes a record that has begun waits for: those of its header, and then those of its payload
+unfoldable pub recordLacks : List ℕ → ℕ
+recordLacks bytes =
+    if ltb (length bytes) header then header - length bytes
+    else header + u16 bytes 0 - length bytes
 
 -- ---- what a record asks
 

@@ -2,8 +2,8 @@
 ghost use Prim.Native.Nat.{_+_, _*_, _^_, _<_, _≤_};
 ghost use mathlib.Core.Path.{_≡_};
 ghost use lib.ListN.{length, getD};
-ghost use Rattle.script.specs.Records.{le, longest, recordSize, rightLength, paramsFrom};
-ghost use Rattle.script.specs.Records.{bodyFrom, messageFrom, callFrom, asked, restStart, restOf};
+ghost use Rattle.script.specs.Records.{le, longest, recordSize, recordLacks, rightLength};
+ghost use Rattle.script.specs.Records.{paramsFrom, bodyFrom, messageFrom, callFrom, asked, restStart, restOf};
 use logic::is_outside;
 use logic::least;
 use logic::long;
@@ -77,6 +77,22 @@ pub fn record_size(bytes: &[u8]) -> usize
         return 0;
     }
     size
+}
+
+// How many bytes a record that has begun waits for: those of its header, and then those of its payload.
+pub fn record_lacks(bytes: &[u8]) -> usize
+    ensures { λ r. ⌜ r ≡ recordLacks (now (bytes .entry)) ⌝ }
+    ensures { λ r. ⌜ (recordSize (now (bytes .entry)) ≡ 0 → length (now (bytes .entry)) + r ≤ longest) ⌝ }
+{
+    let have = bytes.len();
+    if have < HEADER {
+        return HEADER - have;
+    }
+    let size = HEADER + le(bytes, 0, 2) as usize;
+    if size < have {
+        return 0;
+    }
+    size - have
 }
 
 // A kind that there is, with a length that it can have.

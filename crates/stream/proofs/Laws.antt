@@ -1,53 +1,254 @@
--- Laws of the loop over the bytes at hand: it begins with nothing used, and a whole record more is run as the
--- definition runs it. Assumes nothing.
-use Prim.Native.Nat.{ℕ, zero, suc, _+_, _≤_, _<_}
+-- Laws of bytes that come in pieces: what a record gathers is read as the definition reads it, one use after the other
+-- reads on, and the lines of all pieces together are the script's. Assumes nothing.
+use Prim.Native.Nat.{ℕ, zero, suc, _+_, _-_, _≤_, _<_, min}
 use mathlib.Core.Path.{_≡_, refl, sym, ap, _∙_}
+use mathlib.Core.Logic.{_≢_}
 use mathlib.Core.Bool.{Bool}
-use mathlib.Core.List.{List, [], _∷_, _++_}
-use native.Mathlib.Nat.{zero-add}
+use mathlib.Core.List.{List, [], _∷_, _++_, append-assoc, append-nil}
 use native.Mathlib.Omega.{arith}
-use lib.ListN.{length, take, drop, length-drop}
+use borrow.Author.Tests.{eq-eqb, ne-eqb}
+use lib.Dec.{eqb}
+use lib.ListN.{length, take, drop, getD, length-append, length-take, length-drop}
+use lib.Seq.{take-all, take-suc, take-take, take-add, take-append-seam, length-take-le}
+use Rattle.logic.specs.Test.{if_then_else_}
+use Rattle.logic.proofs.Cases.{if-true, if-false, decide}
+use Rattle.text.specs.Text.{textLimit, Page, page, written, putWithin, join}
+use Rattle.text.proofs.Writing.{within-room, put-said}
+use Rattle.session.specs.Session.{fresh}
 use Rattle.session.specs.declared.Session.{Session}
-use Rattle.script.specs.Records.{recordSize}
-use Rattle.script.proofs.Laws.{whole-before}
-use Rattle.runner.specs.Runner.{runRecord, recordLines}
-use Rattle.runner.specs.Script.{Reading, reading, from}
-use Rattle.runner.proofs.Laws.{reading-append, reading-whole}
-use Rattle.stream.specs.Stream.{Upto}
+use Rattle.script.specs.Records.{longest, recordSize, recordLacks}
+use Rattle.script.proofs.Laws.{whole-before, lacks-some, lacks-part}
+use Rattle.runner.specs.Runner.{noParams, runRecord, recordLines, Prints}
+use Rattle.runner.specs.Script.{Reading, hold, takeIn, reading, from, closing, scriptLines}
+use Rattle.runner.proofs.Laws.{waits, reading-append}
+use Rattle.stream.specs.Stream.{readingOf, Begun, Gathers, Feeds, Reads, handedFrom, handed}
 
-take-nil : (n : ℕ) → take {A = ℕ} n [] ≡ []
-take-nil zero = refl
-take-nil (suc n) = refl
+-- ---- what was said before
 
-take-add : (a b : ℕ) (l : List ℕ) → take (a + b) l ≡ take a l ++ take b (drop a l)
-take-add zero b l = rw zero-add
-take-add (suc a) b [] = rw (take-nil (suc a + b), take-nil b)
-take-add (suc a) b (x ∷ l) =
-    let e : suc a + b ≡ suc (a + b) = omega arith in
-    rw e (ap (λ (ys : List ℕ). x ∷ ys) (take-add a b l))
+-- a reading with lines in front of those that it has said
+abbrev behind : List ℕ → Reading → Reading
+behind lines r = readingOf (r .session) (r .begun) (lines ++ r .said)
 
-module _ (traced : Bool) (s : Session) (bytes : List ℕ) where
-  pub upto-start : Upto traced s bytes s 0
-  unfolding reading from
-  upto-start = record { within = omega arith; next = refl; whole = refl }
+hold-behind : (traced : Bool) (lines : List ℕ) (s : Session) (bytes said : List ℕ)
+    → hold traced s bytes (lines ++ said) ≡ behind lines (hold traced s bytes said)
+unfolding hold
+hold-behind traced lines s bytes said =
+    decide (eqb (recordSize bytes) 0)
+    (λ part. if-true _ _ part ∙ sym (ap (behind lines) (if-true _ _ part)))
+    (λ whole.
+    if-false _ _ whole
+    ∙ ap (readingOf (runRecord s bytes) []) (append-assoc lines said (recordLines s bytes traced))
+    ∙ sym (ap (behind lines) (if-false _ _ whole)))
 
-  pub upto-more : (t : Session) (used n : ℕ) → Upto traced s bytes t used → n ≡ recordSize (drop used bytes) → 0 < n
-      → Upto traced s bytes (runRecord t (take n (drop used bytes))) (used + n)
-  upto-more t used zero u e h = absurd (omega arith)
-  upto-more t used (suc n) u e h =
-      let r : Reading = reading traced (from s) (take used bytes) in
-      let rest = drop used bytes in
-      let at = whole-before rest n (rw (← e) (omega arith)) in
-      let room : suc n ≤ length rest = rw e (at .2) in
-      let same : r ≡ record { session = t; begun = []; said = r .said } =
-      ap {B = Reading} (λ (x : Session). record { session = x; begun = r .begun; said = r .said }) (u .next)
-      ∙ ap {B = Reading} (λ (b : List ℕ). record { session = t; begun = b; said = r .said }) (u .whole) in
-      let all = ap (reading traced (from s)) (take-add used (suc n) bytes)
-      ∙ reading-append traced (from s) (take used bytes) (take (suc n) rest)
-      ∙ ap (λ (x : Reading). reading traced x (take (suc n) rest)) same
-      ∙ reading-whole traced t (r .said) rest n (sym e) in
+-- and so it reads on
+reading-behind : (traced : Bool) (lines : List ℕ) (r : Reading) (bytes : List ℕ)
+    → reading traced (behind lines r) bytes ≡ behind lines (reading traced r bytes)
+unfolding reading takeIn
+reading-behind traced lines r [] = refl
+reading-behind traced lines r (b ∷ bytes) =
+    ap (λ (x : Reading). reading traced x bytes)
+    (hold-behind traced lines (r .session) (r .begun ++ (b ∷ [])) (r .said))
+    ∙ reading-behind traced lines (takeIn traced r b) bytes
+
+module _ (traced : Bool) (s : Session) (begun said : List ℕ) (bytes : List ℕ) where
+  pub reading-apart : reading traced (readingOf s begun said) bytes
+      ≡ behind said (reading traced (readingOf s begun []) bytes)
+  reading-apart =
+      ap (λ (x : List ℕ). reading traced (readingOf s begun x) bytes) (sym (append-nil said))
+      ∙ reading-behind traced said (readingOf s begun []) bytes
+
+-- ---- a record's bytes
+
+-- bytes behind the first `at` of a buffer that has room for them
+pub put-behind : (before more : List ℕ) (at : ℕ) {after : List ℕ} {n : ℕ} → at + length more ≤ length before
+    → page after n ≡ putWithin (length before) (page before at) more
+    → (n ≡ at + length more) × (take n after ≡ take at before ++ more)
+put-behind before more at {after} {n} room e =
+    let front : length (take at before) ≡ at = length-take-le at before (omega arith) in
+    let all : page after n ≡ written (take at before ++ more) before =
+    e ∙ within-room (length before) (page before at) more (rw front room) in (
+      ap (λ (p : Page). p .size) all ∙ rw (length-append, front),
+      ap (λ (p : Page). take (p .size) (p .bytes)) all
+          ∙ take-append-seam (take at before ++ more) (drop (length (take at before ++ more)) before),
+    )
+
+-- a whole record at the front of a piece
+module _ (piece : List ℕ) (n : ℕ) (e : n ≡ recordSize piece) (some : 0 < n) where
+  pub gathers-here : Gathers [] piece n (take n piece)
+  gathers-here = record {
+    within = rw e (whole-before piece 0 (rw (← e) some) .2);
+    onward = λ l. some;
+    all = refl;
+    part = λ k l. whole-before piece k (rw (← e) l) .0;
+  }
+
+  pub whole-here : recordSize (take n piece) ≢ 0
+  whole-here z = absurd (omega (arith, rw (← e) at (whole-before piece 0 (rw (← e) some) .1), z, some))
+
+-- as many bytes as the record waits for
+pub gathers-more : (begun piece bytes : List ℕ) (used : ℕ) → recordSize begun ≡ 0
+    → used ≡ min (recordLacks begun) (length piece) → bytes ≡ begun ++ take used piece
+    → Gathers begun piece used bytes
+gathers-more begun piece bytes used part e all = record {
+  within = omega arith;
+  onward = λ l. omega (arith, lacks-some begun part);
+  all = all;
+  part = λ k l. lacks-part begun (take k piece) (rw length-take (omega arith));
+}
+
+module _ (traced : Bool) (s : Session) (said begun piece bytes : List ℕ) where
+  pub reading-gathered : (used : ℕ) → recordSize begun ≡ 0 → Gathers begun piece used bytes
+      → reading traced (readingOf s begun said) (take used piece) ≡ hold traced s bytes said
+  unfolding reading takeIn hold
+  reading-gathered zero e g = rw (g .all, append-nil) (sym (if-true _ _ (eq-eqb _ 0 e)))
+  reading-gathered (suc k) e g =
+      let last = take-suc piece k 0 (omega (arith, g .within)) in
+      let some : (j : ℕ) → j < length (take k piece) → recordSize (begun ++ take (suc j) (take k piece)) ≡ 0 =
+      λ j l.
+      let few : suc j ≤ k = omega (arith, rw length-take at l) in
+      rw (take-take (suc j) k piece few) (g .part (suc j) (omega arith)) in
+      rw (
+        g .all,
+        last,
+        reading-append traced _ (take k piece) (getD piece k 0 ∷ []),
+        waits traced s said begun (take k piece) some,
+        append-assoc,
+      )
+
+module _ (traced : Bool) (s : Session) (begun piece bytes : List ℕ) (used : ℕ) (e : recordSize begun ≡ 0)
+    (g : Gathers begun piece used bytes) where
+  pub feeds-part : recordSize bytes ≡ 0 → {rest : List ℕ} → bytes ≡ rest
+      → Feeds traced (readingOf s begun []) piece used (readingOf s rest [])
+  unfolding hold
+  feeds-part part same = record {
+    within = g .within;
+    onward = g .onward;
+    reads = reading-gathered traced s [] begun piece bytes used e g ∙ if-true _ _ (eq-eqb _ 0 part) ∙ rw same;
+  }
+
+  pub feeds-whole : recordSize bytes ≢ 0 → {after : Session} {before line : List ℕ} {n : ℕ}
+      → Prints (runRecord s bytes) (recordLines s bytes traced) after before line n
+      → Feeds traced (readingOf s begun []) piece used (readingOf after [] (take n line))
+  unfolding hold
+  feeds-whole whole {after} {before} {line} {n} p =
+      let said = put-said before (recordLines s bytes traced) (p .fits) (p .wrote) in
       record {
-        within = omega (arith, rw length-drop at room, u .within);
-        next = ap (λ (x : Reading). x .session) all;
-        whole = ap (λ (x : Reading). x .begun) all;
+        within = g .within;
+        onward = g .onward;
+        reads = reading-gathered traced s [] begun piece bytes used e g ∙ if-false _ _ (ne-eqb _ 0 whole)
+            ∙ rw (← p .next, ← said .1);
       }
+
+-- nothing has begun
+pub none-begun : (buffer : List ℕ) → length buffer ≡ longest → Begun buffer 0
+unfolding recordSize if_then_else_
+none-begun buffer e = record { room = e; short = omega arith; part = refl }
+
+-- ---- one use after the other
+
+module _ (traced : Bool) (r : Reading) (piece : List ℕ) (s : Session) (begun said : List ℕ) (used : ℕ)
+    (e : reading traced r (take used piece) ≡ readingOf s begun said) where
+  pub reads-on : (more : ℕ) (t : Session) (rest lines : List ℕ)
+      → Feeds traced (readingOf s begun []) (drop used piece) more (readingOf t rest lines)
+      → reading traced r (take (used + more) piece) ≡ readingOf t rest (said ++ lines)
+  reads-on more t rest lines f =
+      let next = take more (drop used piece) in
+      ap (reading traced r) (take-add used more piece)
+      ∙ reading-append traced r (take used piece) next
+      ∙ ap (λ (x : Reading). reading traced x next) e
+      ∙ reading-apart traced s begun said next
+      ∙ ap (behind said) (f .reads)
+
+-- a piece that is fed as far as `used`: what it came to so far is at the front of `out`
+pub record FedTo (traced : Bool) (r : Reading) (piece : List ℕ) (s : Session) (begun : List ℕ) (have used : ℕ)
+    (out : List ℕ) (size : ℕ) : Type 0 where
+  pub within : used ≤ length piece
+  pub room : size ≤ length out
+  pub rest : Begun begun have
+  pub unsaid : used ≡ 0 → size ≡ 0
+  pub reads : reading traced r (take used piece) ≡ readingOf s (take have begun) (take size out)
+
+module _ (traced : Bool) (piece : List ℕ) where
+  pub fed-none : (s : Session) (begun out : List ℕ) (have : ℕ) → Begun begun have
+      → FedTo traced (readingOf s (take have begun) []) piece s begun have 0 out 0
+  unfolding reading
+  fed-none s begun out have b =
+      record { within = omega arith; room = omega arith; rest = b; unsaid = λ e. refl; reads = refl }
+
+  pub fed-more : (r : Reading) (s t : Session) (begun after line out next : List ℕ)
+      (have used size more n left end : ℕ) → FedTo traced r piece s begun have used out size
+      → Feeds traced (readingOf s (take have begun) []) (drop used piece) more
+      (readingOf t (take left after) (take n line))
+      → Begun after left → n ≤ textLimit → used < length piece → textLimit ≤ length out - size
+      → length next ≡ length out → page next end ≡ putWithin (length out) (page out size) (take n line)
+      → FedTo traced r piece t after left (used + more) next end
+  fed-more r s t begun after line out next have used size more n left end f fed b few going free same e =
+      let short : length (take n line) ≤ n = rw length-take (omega arith) in
+      let put = put-behind out (take n line) size (omega (arith, f .room)) e in
+      let some : 0 < length (drop used piece) = rw length-drop (omega arith) in
+      record {
+        within = omega (arith, f .within, rw length-drop at (fed .within));
+        room = omega (arith, put .0, f .room);
+        rest = b;
+        unsaid = λ z. absurd (omega (arith, z, fed .onward some));
+        reads = reads-on traced r piece s (take have begun) (take size out) used (f .reads) more t (take left after)
+            (take n line) fed ∙ ap (readingOf t (take left after)) (sym (put .1));
+      }
+
+-- a piece that is read as far as `used`, whatever was said
+pub record ReadTo (traced : Bool) (r : Reading) (piece : List ℕ) (s : Session) (begun : List ℕ) (have used : ℕ)
+    : Type 0 where
+  pub within : used ≤ length piece
+  pub rest : Begun begun have
+  pub next : reading traced r (take used piece) .session ≡ s
+  pub front : reading traced r (take used piece) .begun ≡ take have begun
+
+module _ (traced : Bool) (piece : List ℕ) where
+  pub read-none : (s : Session) (begun : List ℕ) (have : ℕ) → Begun begun have
+      → ReadTo traced (readingOf s (take have begun) []) piece s begun have 0
+  unfolding reading
+  read-none s begun have b = record { within = omega arith; rest = b; next = refl; front = refl }
+
+  pub read-more : (r : Reading) (s t : Session) (begun after lines : List ℕ) (have used more left : ℕ)
+      → ReadTo traced r piece s begun have used
+      → Feeds traced (readingOf s (take have begun) []) (drop used piece) more (readingOf t (take left after) lines)
+      → Begun after left → ReadTo traced r piece t after left (used + more)
+  read-more r s t begun after lines have used more left f fed b =
+      let here = reading traced r (take used piece) in
+      let same : here ≡ readingOf s (take have begun) (here .said) =
+      ap (λ (x : Session). readingOf x (here .begun) (here .said)) (f .next)
+      ∙ ap (λ (x : List ℕ). readingOf s x (here .said)) (f .front) in
+      let on = reads-on traced r piece s (take have begun) (here .said) used same more t (take left after) lines fed in
+      record {
+        within = omega (arith, f .within, rw length-drop at (fed .within));
+        rest = b;
+        next = ap (λ (x : Reading). x .session) on;
+        front = ap (λ (x : Reading). x .begun) on;
+      }
+
+  -- up to its end
+  pub read-all : (r : Reading) (s : Session) (begun : List ℕ) (have used : ℕ)
+      → ReadTo traced r piece s begun have used → length piece ≤ used → Reads traced r piece s (take have begun)
+  read-all r s begun have used f l =
+      let all = take-all used piece l in record { next = rw all at (f .next); rest = rw all at (f .front) }
+
+-- ---- all pieces
+
+module _ (traced : Bool) where
+  from-here : (s : Session) (begun said : List ℕ) (pieces : List (List ℕ))
+      → closing traced (reading traced (readingOf s begun said) (join pieces))
+      ≡ said ++ handedFrom traced s begun pieces
+  unfolding join reading closing handedFrom
+  from-here s begun said [] = refl
+  from-here s begun said (p ∷ ps) =
+      let r = reading traced (readingOf s begun []) p in
+      ap (closing traced)
+      (reading-append traced (readingOf s begun said) p (join ps)
+      ∙ ap (λ (x : Reading). reading traced x (join ps)) (reading-apart traced s begun said p))
+      ∙ from-here (r .session) (r .begun) (said ++ r .said) ps
+      ∙ append-assoc said (r .said) (handedFrom traced (r .session) (r .begun) ps)
+
+  -- however the bytes come in pieces, what is handed to be written is, put together, what the script prints
+  pub handed-whole : (pieces : List (List ℕ)) → handed traced pieces ≡ scriptLines traced (join pieces)
+  unfolding handed scriptLines from
+  handed-whole pieces = sym (from-here (fresh noParams) [] [] pieces)

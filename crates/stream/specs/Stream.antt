@@ -1,28 +1,57 @@
--- What the loop over the bytes at hand keeps to: it runs the records that the definition of a script's lines runs, in
--- order and each once, and what it leaves is the record that has begun. What is read and written is beyond a contract.
--- Assumes nothing.
+-- Between reading and writing, which are beyond a contract: the bytes come in pieces, and what each piece comes to is
+-- what the definition of a script's lines (runner/specs/Script.antt) makes of it. Assumes nothing.
 use Prim.Native.Nat.{ℕ, _≤_, _<_}
 use mathlib.Core.Path.{_≡_}
-use mathlib.Core.Bool.{Bool, true, false}
-use mathlib.Core.List.{List, []}
-use lib.ListN.{length, take, drop}
+use mathlib.Core.Bool.{Bool}
+use mathlib.Core.List.{List, [], _∷_, _++_}
+use lib.ListN.{length, take}
+use Rattle.logic.specs.Test.{if_then_else_}
+use Rattle.session.specs.Session.{fresh}
 use Rattle.session.specs.declared.Session.{Session}
 use Rattle.script.specs.Records.{longest, recordSize}
-use Rattle.runner.specs.Script.{reading, from}
-use Rattle.stream.specs.declared.Progress.{Progress}
+use Rattle.runner.specs.Runner.{noParams, endLines}
+use Rattle.runner.specs.Script.{Reading, reading}
+use Rattle.stream.specs.declared.Gathered.{Gathered}
 
-abbrev pub buffer : ℕ
-buffer = 131072
+-- a script that is being read, of its parts
+abbrev pub readingOf : Session → (begun said : List ℕ) → Reading
+readingOf s begun said = record { session = s; begun = begun; said = said }
 
--- the size is that of the record that comes next, and where there is none whole, what is left is shorter than the
--- longest record. Where a line could not be written nothing comes next
-pub record Ready (bytes : List ℕ) (p : Progress) : Type 0 where
-  pub going : p .wrote ≡ true → p .size ≡ recordSize (drop (p .used) bytes)
-  pub short : p .wrote ≡ true → p .size ≡ 0 → length (drop (p .used) bytes) < longest
-  pub stopped : p .wrote ≡ false → p .size ≡ 0
+-- the record that has begun stands at the front of a buffer which holds the longest one, and is not whole
+pub record Begun (buffer : List ℕ) (have : ℕ) : Type 0 where
+  pub room : length buffer ≡ longest
+  pub short : have < longest
+  pub part : recordSize (take have buffer) ≡ 0
 
--- the bytes used are whole records, and the session is the one that stands after them
-pub record Upto (traced : Bool) (s : Session) (bytes : List ℕ) (session : Session) (used : ℕ) : Type 0 where
-  pub within : used ≤ length bytes
-  pub next : reading traced (from s) (take used bytes) .session ≡ session
-  pub whole : reading traced (from s) (take used bytes) .begun ≡ []
+-- a record's bytes so far: those that had begun and those used of a piece, of which none before the last makes it whole
+pub record Gathers (begun piece : List ℕ) (used : ℕ) (bytes : List ℕ) : Type 0 where
+  pub within : used ≤ length piece
+  pub onward : 0 < length piece → 0 < used
+  pub all : bytes ≡ begun ++ take used piece
+  pub part : (k : ℕ) → k < used → recordSize (begun ++ take k piece) ≡ 0
+
+-- where they stand: in the piece, or at the front of the buffer
+unfoldable pub bytesOf : (buffer piece : List ℕ) → Gathered → List ℕ
+bytesOf buffer piece g = take (g .size) (if g .here then piece else buffer)
+
+-- bytes at the front of a piece are used, some where there are some, and the script is read on by just these
+pub record Feeds (traced : Bool) (before : Reading) (piece : List ℕ) (used : ℕ) (after : Reading) : Type 0 where
+  pub within : used ≤ length piece
+  pub onward : 0 < length piece → 0 < used
+  pub reads : reading traced before (take used piece) ≡ after
+
+-- the whole piece is read: the session that stands after it, and the record that has begun
+pub record Reads (traced : Bool) (before : Reading) (piece : List ℕ) (after : Session) (begun : List ℕ) : Type 0 where
+  pub next : reading traced before piece .session ≡ after
+  pub rest : reading traced before piece .begun ≡ begun
+
+-- what is handed to be written while a script comes in pieces: of each piece its lines, and at the end `cut` where a
+-- record has begun
+unfoldable pub handedFrom : Bool → Session → (begun : List ℕ) → List (List ℕ) → List ℕ
+handedFrom traced s begun [] = endLines (s .head) (length begun) traced
+handedFrom traced s begun (p ∷ ps) =
+    let r = reading traced (readingOf s begun []) p in
+    r .said ++ handedFrom traced (r .session) (r .begun) ps
+
+unfoldable pub handed : Bool → List (List ℕ) → List ℕ
+handed traced pieces = handedFrom traced (fresh noParams) [] pieces

@@ -18,7 +18,13 @@ returns-2 c = rw (c .match .keys2)
 
 returns-3 : tie.Need-returns-3
 unfolding callFrom if_then_else_
-returns-3 c = rw (c .before .before .before .match .keys3) (cc)
+returns-3 c =
+    rw (
+      c .before .before .before .match .keys3,
+      c .before .before .le .ensures .0,
+      c .before .byte-at .ensures,
+      c .le2 .ensures .0,
+    )
 
 returns-4 : tie.Need-returns-4
 unfolding callFrom if_then_else_
@@ -38,7 +44,9 @@ returns-6 c =
       ne-eqb kind 2 (r .0 .0 .0 .0 .1),
       le-leb 3 kind three,
       le-leb kind 7 (omega (arith, c .before .before .if2 .taken)),
-    ) (cc)
+      c .before .byte-at2 .ensures,
+      c .message-from .ensures,
+    )
 
 returns-7 : tie.Need-returns-7
 unfolding callFrom if_then_else_
