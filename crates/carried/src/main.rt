@@ -1,7 +1,8 @@
 // What every answer carries. Standard input holds a script; for each record this prints the call, document 01's number
 // of the answer and every value that the answer carries (answers.rt). A report is asked for three times, the second
 // time in a buffer that is a byte too short (report.rt). The file stdout beside src/ is what the Rust says. Here is
-// what drives: a record is read, its call is made, its line is written.
+// what drives: a record is read, its call is made, its line is written. The calls are those by value, so that they are
+// held against the Rust as well as those in place, which `circle` makes.
 mod answers;
 mod report;
 
@@ -10,18 +11,18 @@ ghost use mathlib.Core.Path.{_≡_};
 ghost use lib.ListN.{length};
 ghost use Rattle.script.specs.Records.{longest};
 use libc::STDIN_FILENO;
+use libc::STDOUT_FILENO;
 use params::SessionParams;
 use script::Asked;
 use script::Call;
 use session::Session;
 use session::WorldDigest;
-use text::Text;
 use wire::Message;
 
-// What a record came to.
+// What a record came to: the session that stands, and how many bytes the line in the lent buffer has.
 struct Answered {
     pub session: Session,
-    pub line: Text,
+    pub size: usize,
 }
 
 // A record at the front of the buffer. `size` is 0 at the end of the input, and where the record is cut it is not
@@ -46,111 +47,133 @@ fn world(flag: u8, digest: u64) -> WorldDigest {
     WorldDigest::Present(digest)
 }
 
-// A good open replaces the session, a refused one leaves it.
-fn open(s: Session, params: SessionParams) -> Answered {
-    let r = Session::open(params);
-    let answer = r.answer;
-    let line = answers::of_open(answer);
-    if answer.number() == 0 {
-        let session = r.session;
-        return Answered { session, line };
-    }
-    Answered { session: s, line }
+// Before a good open: a session over parameters that no open takes.
+fn no_session() -> Session {
+    let params = SessionParams {
+        count: 0,
+        local: 0,
+        width: 0,
+        delay: 0,
+        period: 0,
+        seed: 0,
+        content: 0,
+        rules: 0,
+        session: 0,
+    };
+    Session::open(params).session
 }
 
-fn submit(s: Session, press: &[u8]) -> Answered {
+// A good open replaces the session, a refused one leaves it.
+fn open(s: Session, out: &mut [u8; text::LIMIT], params: SessionParams) -> Answered {
+    let r = Session::open(params);
+    let answer = r.answer;
+    let size = answers::of_open(out, answer);
+    if answer.number() == 0 {
+        let session = r.session;
+        return Answered { session, size };
+    }
+    Answered { session: s, size }
+}
+
+fn submit(s: Session, out: &mut [u8; text::LIMIT], press: &[u8]) -> Answered {
     let r = s.submit(press);
     let answer = r.answer;
     let session = r.session;
     Answered {
         session: session,
-        line: answers::of_submit(answer),
+        size: answers::of_submit(out, answer),
     }
 }
 
-fn take_in(s: Session, source: u8, message: Message, run: &[u8]) -> Answered {
+fn take_in(
+    s: Session,
+    out: &mut [u8; text::LIMIT],
+    source: u8,
+    message: Message,
+    run: &[u8],
+) -> Answered {
     let r = deliver::deliver(s, source, message, run);
     let answer = r.answer;
     let session = r.session;
     Answered {
         session: session,
-        line: answers::of_deliver(answer),
+        size: answers::of_deliver(out, answer),
     }
 }
 
-fn advance(s: Session) -> Answered {
+fn advance(s: Session, out: &mut [u8; text::LIMIT]) -> Answered {
     let r = s.advance();
     let answer = r.answer;
     let session = r.session;
     Answered {
         session: session,
-        line: answers::of_advance(answer),
+        size: answers::of_advance(out, answer),
     }
 }
 
-fn commit(s: Session, tick: u64, digest: WorldDigest) -> Answered {
+fn commit(s: Session, out: &mut [u8; text::LIMIT], tick: u64, digest: WorldDigest) -> Answered {
     let r = s.commit(tick, digest);
     let answer = r.answer;
     let session = r.session;
     Answered {
         session: session,
-        line: answers::of_commit(answer),
+        size: answers::of_commit(out, answer),
     }
 }
 
-fn leave(s: Session) -> Answered {
+fn leave(s: Session, out: &mut [u8; text::LIMIT]) -> Answered {
     let r = s.leave();
     let answer = r.answer;
     let session = r.session;
     Answered {
         session: session,
-        line: answers::of_leave(answer),
+        size: answers::of_leave(out, answer),
     }
 }
 
-fn send_out(s: Session) -> Answered {
+fn send_out(s: Session, out: &mut [u8; text::LIMIT]) -> Answered {
     let r = pump::next_outbound(s);
     let answer = r.answer;
     let session = r.session;
     Answered {
         session: session,
-        line: answers::of_pump(answer),
+        size: answers::of_pump(out, answer),
     }
 }
 
-fn make(s: Session, asked: Call, bytes: &[u8]) -> Answered {
+fn make(s: Session, out: &mut [u8; text::LIMIT], asked: Call, bytes: &[u8]) -> Answered {
     match asked {
-        Call::Submit => submit(s, bytes),
-        Call::Deliver { source, message } => take_in(s, source, message, bytes),
-        Call::Advance => advance(s),
-        Call::Commit { tick, flag, digest } => commit(s, tick, world(flag, digest)),
-        Call::Leave => leave(s),
-        Call::Pump => send_out(s),
+        Call::Submit => submit(s, out, bytes),
+        Call::Deliver { source, message } => take_in(s, out, source, message, bytes),
+        Call::Advance => advance(s, out),
+        Call::Commit { tick, flag, digest } => commit(s, out, tick, world(flag, digest)),
+        Call::Leave => leave(s, out),
+        Call::Pump => send_out(s, out),
         Call::Report => Answered {
             session: s,
-            line: report::three_times(s),
+            size: report::three_times(s, out),
         },
     }
 }
 
-fn said(session: Session, word: &[u8]) -> Answered {
+fn said(session: Session, out: &mut [u8; text::LIMIT], word: &[u8]) -> Answered {
     Answered {
         session: session,
-        line: Text::new().piece(word),
+        size: text::piece(out, 0, word),
     }
 }
 
 // Before a good open only an open does anything.
-fn answer(s: Session, record: &[u8]) -> Answered {
+fn answer(s: Session, out: &mut [u8; text::LIMIT], record: &[u8]) -> Answered {
     let asked = script::asked_by(record);
     match asked {
-        Asked::Bad => said(s, b"bad"),
-        Asked::Open(params) => open(s, params),
+        Asked::Bad => said(s, out, b"bad"),
+        Asked::Open(params) => open(s, out, params),
         Asked::Of(asked_of) => {
-            if s.params.bad_state() {
-                return said(s, b"none");
+            if s.head.params.bad_state() {
+                return said(s, out, b"none");
             }
-            make(s, asked_of, script::rest_of(record))
+            make(s, out, asked_of, script::rest_of(record))
         }
     }
 }
@@ -197,27 +220,39 @@ fn read_record(buf: &mut [u8]) -> Read
     }
 }
 
+// Writes the first bytes of a buffer. It says whether that could be done.
+fn put_out(bytes: &[u8], size: usize) -> bool {
+    let n = logic::least(size, bytes.len());
+    io::write_all(STDOUT_FILENO, &bytes[..n])
+}
+
+// Ends the line in the buffer and writes it.
+fn say(out: &mut [u8; text::LIMIT], size: usize) -> bool {
+    let n = text::byte(out, size, b'\n');
+    put_out(out, n)
+}
+
 // The next record, if the input holds one.
-fn take_turn(t: Turn, buf: &mut [u8]) -> Turn
+fn take_turn(t: Turn, buf: &mut [u8], out: &mut [u8; text::LIMIT]) -> Turn
     requires { ⌜ length (now buf) ≡ longest ⌝ }
 {
     let session = t.session;
     let read = read_record(buf);
     if !read.whole {
         if read.size > 0 {
-            stream::say(Text::new().piece(b"cut\n"));
+            let cut = text::piece(out, 0, b"cut");
+            say(out, cut);
         }
         return Turn {
             session: session,
             going: false,
         };
     }
-    let answered = answer(session, &buf[..read.size]);
+    let answered = answer(session, out, &buf[..read.size]);
     let next = answered.session;
-    let going = stream::say(answered.line.byte(b'\n'));
     Turn {
         session: next,
-        going: going,
+        going: say(out, answered.size),
     }
 }
 
@@ -225,13 +260,14 @@ fn take_turn(t: Turn, buf: &mut [u8]) -> Turn
 // uses up.
 fn main() {
     let mut buf = [0u8; script::LONGEST];
+    let mut out = [0u8; text::LIMIT];
     let mut t = Turn {
-        session: runner::no_session(),
+        session: no_session(),
         going: true,
     };
     let mut turns = u64::MAX;
     while turns > 0 && t.going {
-        t = take_turn(t, &mut buf);
+        t = take_turn(t, &mut buf, &mut out);
         turns -= 1;
     }
 }

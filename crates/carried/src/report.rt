@@ -7,7 +7,6 @@ use crate::answers::Tried;
 use crate::answers::of_report;
 use desync::WriteReport;
 use session::Session;
-use text::Text;
 
 // What a lent buffer holds before a report is written into it. A report is ASCII, so every byte that it writes is
 // another.
@@ -69,10 +68,12 @@ fn byte_less(n: usize) -> usize
 }
 
 // In the largest buffer, in one that is a byte too short for what that took, and in one that just holds it.
-pub(crate) fn three_times(s: Session) -> Text {
+pub(crate) fn three_times(s: Session, out: &mut [u8; text::LIMIT]) -> usize {
     let large = try_in(s, text::LIMIT);
     let answer = large.answer;
     let n = length_of(answer);
-    let t = of_report(Text::new().piece(b"report"), large);
-    of_report(of_report(t, try_in(s, byte_less(n))), try_in(s, n))
+    let named = text::piece(out, 0, b"report");
+    let first = of_report(out, named, large);
+    let second = of_report(out, first, try_in(s, byte_less(n)));
+    of_report(out, second, try_in(s, n))
 }

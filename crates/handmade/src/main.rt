@@ -6,8 +6,12 @@ use fingerprint::Cell;
 use fingerprint::Fingerprint;
 use params::SessionParams;
 use session::Emit;
+use session::Head;
+use session::Marks;
 use session::Outcome;
 use session::Outstanding;
+use session::Pass;
+use session::Play;
 use session::Session;
 use session::Standing;
 use session::WorldDigest;
@@ -37,61 +41,102 @@ fn base() -> Session {
     Session::open(trio(3)).session
 }
 
+// A session that differs from a new one in what it plays and what it has seen.
+fn with(play: Play, marks: Marks) -> Session {
+    let b = base();
+    let h = b.head;
+    let head = Head {
+        play: play,
+        marks: marks,
+        ..h
+    };
+    Session { head: head, ..b }
+}
+
+fn at_ticks(pending: u64, next_local: u64) -> Play {
+    let h = base().head;
+    let play = h.play;
+    Play {
+        pending: pending,
+        next_local: next_local,
+        ..play
+    }
+}
+
+fn started() -> Marks {
+    let h = base().head;
+    let marks = h.marks;
+    Marks {
+        started: true,
+        ..marks
+    }
+}
+
+fn over(s: Session, outcome: Outcome) -> Session {
+    let h = s.head;
+    let head = Head {
+        outcome: Standing::Over(outcome),
+        ..h
+    };
+    Session { head: head, ..s }
+}
+
 // Every tick number at its last.
 fn at_the_last_tick() -> Session {
-    Session {
-        pending: MOST,
-        next: MOST,
-        playing: true,
+    let play = Play {
         stalled: MOST,
-        ..base()
-    }
+        ..at_ticks(MOST, MOST)
+    };
+    with(play, started())
 }
 
 // Seats that are none in every set.
 fn strangers_in_the_sets() -> Session {
-    Session {
+    let marks = Marks {
         hellos: 250,
-        seen: 248,
-        pending: 3,
-        next: 2,
-        ..base()
-    }
+        playing: 248,
+        started: false,
+    };
+    with(at_ticks(3, 2), marks)
 }
 
 // It is over, and its marks say that it plays.
 fn plays_though_over() -> Session {
-    Session {
-        playing: true,
+    let marks = Marks {
         hellos: 7,
-        next: 9,
-        pending: 4,
-        outcome: Standing::Over(Outcome::PeerLeft {
-            peer: 200,
-            tick: MOST,
-        }),
-        ..base()
-    }
+        ..started()
+    };
+    let outcome = Outcome::PeerLeft {
+        peer: 200,
+        tick: MOST,
+    };
+    over(with(at_ticks(4, 9), marks), outcome)
 }
 
 // A step is out for another tick than the pending one.
 fn steps_elsewhere() -> Session {
-    Session {
-        playing: true,
-        pending: 5,
-        next: 6,
+    let play = Play {
         step: Outstanding::Out {
             tick: 77,
             due: true,
         },
-        ..base()
-    }
+        ..at_ticks(5, 6)
+    };
+    with(play, started())
 }
 
 // One's own cell 3 holds a print of tick 100, which belongs in cell 4. Cell 9 holds tick 9, of which seat 2 has another
 // state, and seat 0's cell 9 holds tick 25. The owed print is of a tick that no cell holds.
 fn prints_astray() -> Session {
-    let b = base();
+    let marks = Marks {
+        hellos: 7,
+        ..started()
+    };
+    let play = Play {
+        step: Outstanding::Out { tick: 9, due: true },
+        ..at_ticks(9, 9)
+    };
+    let b = with(play, marks);
     let mut p = b.prints;
     p.held[3] = true;
     p.ticks[3] = 100;
@@ -108,79 +153,87 @@ fn prints_astray() -> Session {
     p.ticks[57] = 9;
     p.states[57] = 16;
     p.inputs[57] = 17;
-    Session {
-        prints: p,
+    let h = b.head;
+    let head = Head {
         owed: Cell::Holds(Fingerprint {
             tick: 40,
             state: 41,
             input: 42,
         }),
-        playing: true,
-        hellos: 7,
-        pending: 9,
-        next: 9,
-        step: Outstanding::Out { tick: 9, due: true },
+        ..h
+    };
+    Session {
+        head: head,
+        prints: p,
         ..b
     }
 }
 
 // The same, over as desynced at tick 9, which one's own cell holds and seat 2 denies, with pending at 0 again.
 fn parted_astray() -> Session {
-    let s = prints_astray();
-    Session {
-        outcome: Standing::Over(Outcome::Desynced { tick: 9 }),
-        pending: 0,
-        ..s
-    }
+    let s = over(prints_astray(), Outcome::Desynced { tick: 9 });
+    let h = s.head;
+    let play = h.play;
+    let again = Play { pending: 0, ..play };
+    let head = Head { play: again, ..h };
+    Session { head: head, ..s }
 }
 
 // The pump in the middle of a pass, at seats that are none.
 fn pump_past_the_seats() -> Session {
-    Session {
-        emit: Emit::Inputs,
-        place: 255,
+    let b = with(at_ticks(0, 3), started());
+    let h = b.head;
+    let head = Head {
+        pass: Pass {
+            kind: Emit::Inputs,
+            place: 255,
+        },
         owed: Cell::Holds(Fingerprint {
             tick: MOST,
             state: 1,
             input: 2,
         }),
-        playing: true,
-        next: 3,
-        ..base()
-    }
+        ..h
+    };
+    Session { head: head, ..b }
 }
 
 // It says Bye, and is not over.
 fn pump_says_bye() -> Session {
-    Session {
-        emit: Emit::Bye,
-        place: 1,
-        pending: 4,
-        ..base()
-    }
+    let b = base();
+    let h = b.head;
+    let head = Head {
+        play: at_ticks(4, 0),
+        pass: Pass {
+            kind: Emit::Bye,
+            place: 1,
+        },
+        ..h
+    };
+    Session { head: head, ..b }
 }
 
 // Cells of the ring that hold every seat, one for a tick 64 beyond pending.
 fn ring_of_strangers() -> Session {
-    let b = base();
+    let b = with(at_ticks(6, 70), started());
     let mut w = b.window;
     w.ticks[5] = 69;
-    w.present[5] = 255;
+    w.present[5] = peer::PeerSet::of_count(peer::SEATS).bits();
     w.ticks[6] = 6;
-    w.present[6] = 255;
+    w.present[6] = peer::PeerSet::of_count(peer::SEATS).bits();
     w.ring[(64 + 6) * 16] = 171;
-    Session {
-        window: w,
-        playing: true,
-        pending: 6,
-        next: 70,
-        ..b
-    }
+    Session { window: w, ..b }
 }
 
 // Every counter at its end, and the last stall at this tick.
 fn counters_full() -> Session {
-    Session {
+    let play = Play {
+        stalled: 0,
+        ..at_ticks(0, 0)
+    };
+    let b = with(play, started());
+    let h = b.head;
+    let head = Head {
         stats: SessionStats {
             datagrams_refused: MOST,
             frames_repeated: MOST,
@@ -189,23 +242,48 @@ fn counters_full() -> Session {
             digests_contradicted: MOST,
             stall_pumps: MOST,
         },
-        playing: true,
-        stalled: 0,
-        ..base()
-    }
+        ..h
+    };
+    Session { head: head, ..b }
 }
 
 // Parameters that no open takes: 20.
-fn nine_seats() -> Session {
-    Session::open(trio(9)).session
+fn too_many_seats() -> Session {
+    Session::open(trio(peer::SEATS + 1)).session
 }
 
-// The script on a session, from each of its records on.
+// The script on a session of its own.
+fn run_on(s: Session, script: &[u8]) {
+    let head = s.head;
+    let window = s.window;
+    let mut ring = window.ring;
+    let mut ticks = window.ticks;
+    let mut present = window.present;
+    let prints = s.prints;
+    let mut held = prints.held;
+    let mut printed = prints.ticks;
+    let mut states = prints.states;
+    let mut inputs = prints.inputs;
+    stream::run_bytes(
+        head,
+        &mut ring,
+        &mut ticks,
+        &mut present,
+        &mut held,
+        &mut printed,
+        &mut states,
+        &mut inputs,
+        script,
+        true,
+    );
+}
+
+// From each of its records on.
 fn from_each(s: Session, script: &[u8]) {
     let mut at: usize = 0;
     let mut size = script::record_size(script);
     while size > 0 {
-        stream::run_all(s, &script[at..], true);
+        run_on(s, &script[at..]);
         at += size;
         size = script::record_size(&script[at..]);
     }
@@ -253,6 +331,6 @@ fn main() {
     from_each(pump_says_bye(), script);
     from_each(ring_of_strangers(), script);
     from_each(counters_full(), script);
-    from_each(nine_seats(), script);
-    numbers(nine_seats());
+    from_each(too_many_seats(), script);
+    numbers(too_many_seats());
 }

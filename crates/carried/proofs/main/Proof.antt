@@ -8,10 +8,10 @@ use Rattle.carried.proofs.main.Statement.{statement}
 use Rattle.carried.proofs.main.Tie as tie
 
 abbrev Inv-loop : tie.InvT-loop
-Inv-loop buf₀ t₀ turns₀ buf t turns = length buf ≡ longest
+Inv-loop buf₀ out₀ t₀ turns₀ buf out t turns = length buf ≡ longest
 
 abbrev μ-loop : tie.MeasureT-loop
-μ-loop buf₀ t₀ turns₀ buf t turns = turns
+μ-loop buf₀ out₀ t₀ turns₀ buf out t turns = turns
 
 loop-holds : tie.Need-loop-holds Inv-loop μ-loop
 loop-holds c = search needs
@@ -20,7 +20,7 @@ slice-aggregate-take-turn : tie.Need-slice-aggregate-take-turn Inv-loop μ-loop
 slice-aggregate-take-turn c = search needs
 
 take-turn-requires : tie.Need-take-turn-requires Inv-loop μ-loop
-take-turn-requires c κs = c .before .before .before .loop .inv
+take-turn-requires c κs = c .before .before .before .before .loop .inv
 
 sub-turns : tie.Need-sub-turns Inv-loop μ-loop
 sub-turns c = omega arith

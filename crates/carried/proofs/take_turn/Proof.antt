@@ -12,5 +12,4 @@ pub take-turn-spec : {M : Type 1} → statement M
 take-turn-spec =
     tie.close
     (tie.spec (search needs) (search needs) (search needs) (search needs) (search needs) (search needs) (search needs)
-    (search needs) (search needs)
-    (search needs) slice-aggregate-answer (search needs) (search needs) (search needs) (search needs) (search needs))
+    (search needs) (search needs) slice-aggregate-answer (search needs) (search needs) (search needs) (search needs))

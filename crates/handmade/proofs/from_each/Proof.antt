@@ -29,14 +29,14 @@ room c =
 loop-holds : tie.Need-loop-holds Inv-loop μ-loop
 loop-holds c = (omega arith, c .record-size .ensures .0)
 
-sub-run-all : tie.Need-sub-run-all Inv-loop μ-loop
-sub-run-all c = omega arith
+sub-run-on : tie.Need-sub-run-on Inv-loop μ-loop
+sub-run-on c = omega arith
 
-part-run-all-start : tie.Need-part-run-all-start Inv-loop μ-loop
-part-run-all-start c = omega arith
+part-run-on-start : tie.Need-part-run-on-start Inv-loop μ-loop
+part-run-on-start c = omega arith
 
-part-run-all-end : tie.Need-part-run-all-end Inv-loop μ-loop
-part-run-all-end c = search needs
+part-run-on-end : tie.Need-part-run-on-end Inv-loop μ-loop
+part-run-on-end c = search needs
 
 add-at : tie.Need-add-at Inv-loop μ-loop
 add-at c = omega (arith, room (c .before .before))
@@ -62,6 +62,6 @@ returns c = tt
 pub from-each-spec : {M : Type 1} → statement M
 from-each-spec =
     tie.close
-    (tie.spec Inv-loop μ-loop (λ c κs. search needs) loop-holds sub-run-all part-run-all-start part-run-all-end
+    (tie.spec Inv-loop μ-loop (λ c κs. search needs) loop-holds sub-run-on part-run-on-start part-run-on-end
     (λ c κs. search needs) add-at sub-record-size part-record-size-start part-record-size-end (λ c κs. search needs)
     loop-less loop-again returns)
