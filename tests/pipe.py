@@ -1,5 +1,5 @@
 #!/usr/bin/env python3
-"""circle on a pipe: in pieces, slowly, and past the size of its buffer.
+"""circle on a pipe and on a file: in pieces, slowly, past the size of its buffers, and broken off at every place.
 
     python3 tests/pipe.py --program 'CMD'
 
@@ -12,13 +12,16 @@ import select
 import shlex
 import subprocess
 import sys
+import tempfile
 import time
 
 import outside
 import rules
 
 WAIT = 30  # seconds for one line; an emulator is slow to start
-BUFFER = 131072
+PIECE = 65536  # what circle reads at once; of a file it gets as much
+OUT = 16384  # and writes at once
+SIZES = 1, 3, 4, 5, 4096, 70000
 
 
 def case(params=None):
@@ -34,6 +37,22 @@ def case(params=None):
 
 def expected(script):
     return rules.text(script).encode()
+
+
+def broken_off(params=None):
+    """Scripts whose first piece ends within a record, at each place of its header and a little after."""
+    params = params or rules.Params(2, 0, 1, 0, 1, 0, 0, 0, 9)
+    for place in range(8):
+        first = outside.open_record(params)
+        filler = outside.submit_record(bytes(PIECE - place - len(first) - 4))
+        yield first + filler + outside.submit_record(b"abc") + outside.record(rules.PUMP) * 3
+
+
+def from_file(command, script):
+    with tempfile.TemporaryFile() as file:
+        file.write(script)
+        file.seek(0)
+        return subprocess.run(command, stdin=file, stdout=subprocess.PIPE, check=True).stdout
 
 
 def in_pieces(command, script, sizes):
@@ -82,17 +101,23 @@ def main():
     command = shlex.split(parser.parse_args().program)
     records = case()
     script = b"".join(records)
-    assert len(script) > BUFFER
+    assert len(script) > 2 * PIECE
     want = expected(script)
     dice = random.Random(1)
     short = b"".join(records[:3]) + records[0][:7]
     tries = [
         ("in one piece", in_pieces(command, script, iter([len(script)])), want),
-        ("in pieces of every size", in_pieces(command, script, iter(lambda: dice.choice((1, 3, 4, 5, 4096, 70000)), 0)), want),
+        ("in pieces of every size", in_pieces(command, script, iter(lambda: dice.choice(SIZES), 0)), want),
         ("byte by byte, and cut", in_pieces(command, short, iter(lambda: 1, 0)), expected(short)),
         ("a record at a time", as_it_goes(command, records), want),
         ("nothing", in_pieces(command, b"", iter([1])), b""),
+        ("from a file", from_file(command, script), want),
     ]
+    for place, text in enumerate(broken_off()):
+        tries.append((f"broken off at place {place}", from_file(command, text), expected(text)))
+    many = records[0] + outside.record(99) * OUT
+    assert len(expected(many)) > 2 * OUT
+    tries.append(("more lines than are written at once", from_file(command, many), expected(many)))
     for name, got, wanted in tries:
         if got != wanted:
             print(f"tests/pipe.py: {name}: printed\n{got[:400]!r}\nfor\n{wanted[:400]!r}")
