@@ -5,6 +5,8 @@
 //! message that a pump sent (`> `) and what the session shows (`= `).
 //! `oracle --carried < script` prints for each record the call, the number and
 //! every value that the answer carries, as the program `carried` must.
+//! `oracle --measure < jobs` makes calls over and over to be timed, as the
+//! program `measure` does, and prints the sum of their answers.
 //!
 //! The session is driven through its own front door: a record becomes a
 //! datagram by the published writer and goes into `deliver`, and what comes
@@ -14,6 +16,7 @@
 //! and leaves the session alone.
 
 mod carried;
+mod measure;
 
 use std::io::{self, BufWriter, Read, Write};
 use std::num::NonZeroU64;
@@ -21,8 +24,8 @@ use std::process::ExitCode;
 
 use renew_net::wire::{self, Body};
 use renew_net::{
-    Advance, CommitError, Delivery, MAX_DATAGRAM_BYTES, Outcome, ParamsError, PeerId, Refusal,
-    Session, SessionParams, SubmitError,
+    Advance, CommitError, Delivery, DesyncReport, MAX_DATAGRAM_BYTES, Outbound, Outcome,
+    ParamsError, PeerId, Refusal, Session, SessionParams, SubmitError,
 };
 
 const OPEN: u16 = 1;
@@ -44,6 +47,7 @@ enum Form {
     Plain,
     Trace,
     Carried,
+    Measure,
 }
 
 fn main() -> ExitCode {
@@ -52,8 +56,9 @@ fn main() -> ExitCode {
         [] => Form::Plain,
         ["--trace"] => Form::Trace,
         ["--carried"] => Form::Carried,
+        ["--measure"] => Form::Measure,
         _ => {
-            eprintln!("usage: oracle [--trace | --carried] < script");
+            eprintln!("usage: oracle [--trace | --carried] < script, or oracle --measure < jobs");
             return ExitCode::from(2);
         }
     };
@@ -71,6 +76,10 @@ fn run(form: Form) -> io::Result<()> {
     let mut script = Vec::new();
     io::stdin().lock().read_to_end(&mut script)?;
     let mut out = BufWriter::new(io::stdout().lock());
+    if form == Form::Measure {
+        measure::answer(&script, &mut out)?;
+        return out.flush();
+    }
     let mut session = None;
     let mut rest = &script[..];
     while !rest.is_empty() {
@@ -154,40 +163,32 @@ fn answer(
             }
             Err((number, _)) => number,
         };
-        return writeln!(out, "open {number}");
+        return print_open(number, out);
     }
     let Some(session) = session else {
         return writeln!(out, "none");
     };
     match kind {
-        SUBMIT => match session.submit(payload) {
-            Ok(tick) => writeln!(out, "submit 0 {tick}"),
-            Err(error) => writeln!(out, "submit {}", submit_number(error)),
-        },
+        SUBMIT => print_submit(session.submit(payload), out),
         ADVANCE => print_advance(&session.advance(), out),
         COMMIT => {
             let tick = fields.u64();
             let given = fields.u8() != 0;
             let digest = fields.u64();
-            let number = match session.commit(tick, given.then_some(digest)) {
-                Ok(()) => 0,
-                Err(error) => commit_number(error),
-            };
-            writeln!(out, "commit {number}")
+            print_commit(session.commit(tick, given.then_some(digest)), out)
         }
-        LEAVE => writeln!(out, "ended {}", Ending(Some(session.leave()))),
-        PUMP => pump(session, trace, out),
-        REPORT => match session.desync() {
-            Some(report) => writeln!(out, "{}", report.json()),
-            None => writeln!(out, "report 61"),
-        },
+        LEAVE => print_leave(session.leave(), out),
+        PUMP => {
+            let mut bytes = [0; MAX_DATAGRAM_BYTES];
+            print_send(session.next_outbound(&mut bytes), trace, out)
+        }
+        REPORT => print_report(session.desync(), out),
         _ => {
             let mut bytes = [0; MAX_DATAGRAM_BYTES];
             let Some((source, length)) = datagram(kind, fields, &mut bytes) else {
                 return writeln!(out, "outside");
             };
-            let delivery = session.deliver(source, &bytes[..length]);
-            writeln!(out, "deliver {}", delivery_number(delivery))
+            print_delivery(session.deliver(source, &bytes[..length]), out)
         }
     }
 }
@@ -362,6 +363,36 @@ fn delivery_number(delivery: Delivery) -> u8 {
     }
 }
 
+fn print_open(number: u8, out: &mut impl Write) -> io::Result<()> {
+    writeln!(out, "open {number}")
+}
+
+fn print_submit(answer: Result<u64, SubmitError>, out: &mut impl Write) -> io::Result<()> {
+    match answer {
+        Ok(tick) => writeln!(out, "submit 0 {tick}"),
+        Err(error) => writeln!(out, "submit {}", submit_number(error)),
+    }
+}
+
+fn print_delivery(answer: Delivery, out: &mut impl Write) -> io::Result<()> {
+    writeln!(out, "deliver {}", delivery_number(answer))
+}
+
+fn print_commit(answer: Result<(), CommitError>, out: &mut impl Write) -> io::Result<()> {
+    writeln!(out, "commit {}", answer.map_or_else(commit_number, |()| 0))
+}
+
+fn print_leave(outcome: Outcome, out: &mut impl Write) -> io::Result<()> {
+    writeln!(out, "ended {}", Ending(Some(outcome)))
+}
+
+fn print_report(answer: Option<DesyncReport>, out: &mut impl Write) -> io::Result<()> {
+    match answer {
+        Some(report) => writeln!(out, "{}", report.json()),
+        None => writeln!(out, "report 61"),
+    }
+}
+
 fn print_advance(advance: &Advance, out: &mut impl Write) -> io::Result<()> {
     match advance {
         Advance::Step(step) => {
@@ -381,9 +412,8 @@ fn print_advance(advance: &Advance, out: &mut impl Write) -> io::Result<()> {
     }
 }
 
-fn pump(session: &mut Session, trace: bool, out: &mut impl Write) -> io::Result<()> {
-    let mut bytes = [0; MAX_DATAGRAM_BYTES];
-    let Some(outbound) = session.next_outbound(&mut bytes) else {
+fn print_send(sent: Option<Outbound>, trace: bool, out: &mut impl Write) -> io::Result<()> {
+    let Some(outbound) = sent else {
         return writeln!(out, "send 71");
     };
     let message = wire::read(outbound.bytes()).expect("the session's own datagram is readable");
