@@ -58,6 +58,11 @@ class Refusals(unittest.TestCase):
         (self.crate / ".log").write_text(log)
         return refusals.judged("box", refusals.Wrong("x", where, place, "fact"), refusals.first_words(self.crate), log)
 
+    def refused(self, words, *lines):
+        """What is amiss where the checker says this of `take`, at the place that was to be refused."""
+        said = f"AT/proofs/take/Proof.antt:9:1: error: `returns`: {words}", *lines
+        return self.judged("take", "returns", *said, "fn box::take: not proved")
+
     def astray(self, where, *replaces):
         """The text that a wrong answer at WHERE replaces elsewhere."""
         wrong = refusals.Wrong("x", where, "returns", "fact")
@@ -66,23 +71,80 @@ class Refusals(unittest.TestCase):
             return refusals.astray("box", wrong)
 
     def test_a_fact_that_fails_in_a_proof(self):
-        said = "AT/proofs/Set/add/Proof.antt:9:1: error: `returns-2`: give a proof of that", "fn box::Set::add: not proved"
+        said = (
+            "AT/proofs/Set/add/Proof.antt:9:1: error: `returns-2`: give a proof of that",
+            "fn box::Set::add: not proved",
+        )
         self.assertIsNone(self.judged("Set::add", "returns-2", *said))
         self.assertIn("refused at returns-2", self.judged("Set::add", "returns", *said))
 
     def test_a_fact_that_no_search_finds(self):
-        said = "note: AT/src/lib.rt:8:1: it is not proved that what the function ensures holds when it returns (`returns`)", "fn box::take: no proof: expected `take-spec` in .."
+        said = (
+            "note: AT/src/lib.rt:8:1: it is not proved that what the function ensures holds (`returns`)",
+            "fn box::take: no proof: expected `take-spec` in ..",
+        )
         self.assertIsNone(self.judged("take", "returns", *said))
         self.assertIn("nothing is said", self.judged("Set::add", "returns", *said))
 
     def test_what_follows_from_another_does_not_count(self):
-        said = "AT/proofs/take/Proof.antt:9:1: error: `take-spec`: `close` was not admitted, so this cannot be checked", "fn box::take: not proved; it calls .."
+        said = (
+            "AT/proofs/take/Proof.antt:9:1: error: `take-spec`: `close` was not admitted, so this cannot be checked",
+            "fn box::take: not proved; it calls ..",
+        )
         self.assertIn("nothing is said", self.judged("take", "take-spec", *said))
 
     def test_a_missing_name_is_no_fact(self):
-        for words in ("record `c` has no field `wide`", "`foo` is not in scope", "module `m` has no `Tie` that can be named from here", "`omega` stopped at a bound of its own"):
-            said = f"AT/proofs/take/Proof.antt:9:1: error: `returns`: {words}", "fn box::take: not proved"
-            self.assertIn("for its shape", self.judged("take", "returns", *said), words)
+        for words in (
+            "record `c` has no field `wide`",
+            "`foo` is not in scope",
+            "module `m` has no `Tie` that can be named from here",
+        ):
+            self.assertIn("for its shape", self.refused(words), words)
+
+    def test_a_limit_of_a_tactic_is_no_fact(self):
+        for words in (
+            "`omega` stopped at a bound of its own",
+            "`rw` broke off: the call's work took more than 400,000 steps. It stopped while computing",
+            "`search`: no proof of `g` was found. It stopped when its count of 4,000 was spent",
+            "`search`: no proof of `g` was found. The search with them broke off: it may take 4,000 steps",
+            "the use of the laws of constructors was broken off, since that had taken its 250,000 steps",
+            "`omega` was tried too, and was given up after 4,000 steps",
+        ):
+            self.assertIn("for its shape", self.refused(words), words)
+
+    def test_how_deep_a_search_went_is_no_limit(self):
+        for depth in "1 lemma deep", "5 lemmas deep", "12 lemmas deep":
+            words = f"`search`: no proof of `g` was found. It stopped {depth}, with lemmas still to try"
+            self.assertIsNone(self.refused(words), words)
+            self.assertIn("for its shape", self.refused(words + ". A last search broke off: it may take 4,000 steps"))
+
+    def test_the_whole_message_counts(self):
+        cc = "list the missing equation with its arguments, or rewrite by `rw` or `simp`"
+        self.assertIsNone(self.refused(cc, "  `cc` does not join `a`", "  to `b`"))
+        self.assertIn("`met a bound`", self.refused(cc, "  `cc` met a bound of its own before `a`", "  and `b`"))
+        self.assertIn("`has no field`", self.refused("record `c`", "  has no field `wide`"))
+        self.assertIn("`broke off`", self.refused("`search`: no proof of `g`", "  was found. A search broke", "  off"))
+
+    def test_what_comes_after_the_message_does_not_count(self):
+        for note in (
+            "AT/proofs/take/Proof.antt:7:1: note: a trial run was refused too: `cc` met a bound of its own",
+            "AT/proofs/take/Proof.antt:12:1: error: `returns-2`: `foo` is not in scope",
+            "  `cc` met a bound of its own",
+        ):
+            said = "give a proof of that", "  and `a ≡ b`", "  is none"
+            self.assertIsNone(self.refused(*said, "note: and so on", note), note)
+
+    def test_terms_say_nothing(self):
+        self.assertIsNone(self.refused("the two types differ only where one has `has no field`", "  and `broke off`"))
+
+    def test_a_limit_of_a_search_that_rattle_made(self):
+        said = "note: AT/src/lib.rt:8:1: it is not proved that what the function ensures holds (`returns`)"
+        note = "note: what antt said of a `search` in the proof that rattle made: AT/src/lib.rt:8:4: `returns`: no"
+        left = "fn box::take: no proof: expected `take-spec` in .."
+        tried = "  proof of `g` was found. It stopped 5 lemmas deep"
+        self.assertIsNone(self.judged("take", "returns", said, note, tried, left))
+        broken = self.judged("take", "returns", said, note, tried + ". A last search broke off", left)
+        self.assertIn("`broke off`", broken)
 
     def test_a_function_that_is_proved_all_the_same(self):
         said = "AT/proofs/take/Proof.antt:9:1: error: `aside`: give a proof of that", "fn box::take: proved"
