@@ -1,13 +1,14 @@
 -- `params::SessionParams::validate` meets its contract: each return goes by the tests on its way. Assumes nothing.
 use mathlib.Core.Path.{_≡_, sym, _∙_}
 use mathlib.Core.Bool.{false, not}
-use lib.Dec.{ltb}
+use lib.Dec.{eqb, ltb}
 use borrow.Author.Needs.{needs}
 use borrow.Author.Tests.{lt-ltb, le-ltb, eq-eqb, ne-eqb}
 use Rattle.logic.specs.Test.{if_then_else_}
 use Rattle.logic.specs.Range.{outside}
 use Rattle.peer.specs.Seats.{seats}
 use Rattle.params.specs.declared.SessionParams.{SessionParams}
+use Rattle.params.specs.declared.Validity.the-variants.{Valid, SessionZero}
 use Rattle.params.specs.Params.{validity, minPeers, maxWidth}
 use Rattle.params.proofs.SessionParams.validate.Statement.{statement}
 use Rattle.params.proofs.SessionParams.validate.Tie as tie
@@ -57,33 +58,23 @@ returns-5 c =
     let h = passed (c .before .before .before .before) in
     rw (h .count, h .local, h .width, le-ltb _ _ (c .before .before .if4 .left), eq-eqb _ _ (c .if5 .taken))
 
-returns-6 : tie.Need-returns-6
+-- past five checks the session number decides
+sixth : (c : tie.Else5)
+    → let p = c .before .before .before .before .before .before .before .before .before .before .args .self in
+    validity p ≡ if eqb (p .session) 0 then SessionZero else Valid
 unfolding validity if_then_else_
-returns-6 c =
-    let at = c .before .before .before .before in
-    let h = passed (at .before .before) in
-    rw (
-      h .count,
-      h .local,
-      h .width,
-      le-ltb _ _ (at .if4 .left),
-      ne-eqb _ _ (c .before .before .if5 .left),
-      eq-eqb _ _ (c .if6 .taken),
-    )
+sixth c =
+    let delayed = c .before .before in
+    let h = passed (delayed .before .before) in
+    rw (h .count, h .local, h .width, le-ltb _ _ (delayed .if4 .left), ne-eqb _ _ (c .if5 .left))
+
+returns-6 : tie.Need-returns-6
+unfolding if_then_else_
+returns-6 c = rw (sixth (c .before .before), eq-eqb _ _ (c .if6 .taken))
 
 returns-7 : tie.Need-returns-7
-unfolding validity if_then_else_
-returns-7 c =
-    let at = c .before .before .before .before in
-    let h = passed (at .before .before) in
-    rw (
-      h .count,
-      h .local,
-      h .width,
-      le-ltb _ _ (at .if4 .left),
-      ne-eqb _ _ (c .before .before .if5 .left),
-      ne-eqb _ _ (c .if6 .left),
-    )
+unfolding if_then_else_
+returns-7 c = rw (sixth (c .before .before), ne-eqb _ _ (c .if6 .left))
 
 pub validate-spec : {M : Type 1} → statement M
 validate-spec =
