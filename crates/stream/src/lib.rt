@@ -305,6 +305,10 @@ pub fn run_bytes(
         (now (bytes .entry)) .session
         ≡ sessionOf (r .head) (windowOf (now (ring .exit)) (now (ticks .exit)) (now (present .exit)))
         (printsOf (now (held .exit)) (now (printed .exit)) (now (states .exit)) (now (inputs .exit)))) ⌝ }
+    ensures { λ r. ⌜ (r .going ≡ true → length (reading traced
+        (from (sessionOf h (windowOf (now (ring .entry)) (now (ticks .entry)) (now (present .entry)))
+        (printsOf (now (held .entry)) (now (printed .entry)) (now (states .entry)) (now (inputs .entry)))))
+        (now (bytes .entry)) .begun) ≡ r .have) ⌝ }
 {
     let mut begun = [0u8; script::LONGEST];
     let mut line = [0u8; text::LIMIT];
