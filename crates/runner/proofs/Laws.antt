@@ -1,23 +1,20 @@
--- Laws of reading a script: in how many pieces its bytes come does not matter, a whole record is run once, and one that
--- is not whole waits. By these a loop that runs the records at hand one by one, and keeps the rest, reads the script as
--- the definition does. Assumes nothing.
+-- Laws of reading a script: in how many pieces its bytes come does not matter, and a record that is not whole waits.
+-- And what a record's promise comes to. Assumes nothing.
 use Prim.Native.Nat.{ℕ, suc, _<_, _≤_}
 use mathlib.Core.Path.{_≡_, refl, sym, _∙_}
-use mathlib.Core.Bool.{Bool, true, false}
+use mathlib.Core.Bool.{Bool, true}
 use mathlib.Core.List.{List, [], _∷_, _++_, append-assoc, append-nil}
 use native.Mathlib.Omega.{arith}
-use borrow.Author.Tests.{eq-eqb, ne-eqb}
+use borrow.Author.Tests.{eq-eqb}
 use lib.Dec.{eqb}
-use lib.ListN.{length, take, getD, length-append}
-use lib.Seq.{take-suc}
-use Rattle.logic.proofs.Cases.{if-true, if-false}
+use lib.ListN.{length, take, length-append}
+use Rattle.logic.proofs.Cases.{if-true}
 use Rattle.text.specs.Text.{textLimit, page, put}
 use Rattle.text.proofs.Writing.{put-append, put-one}
 use Rattle.lines.specs.Lines.{Says}
 use Rattle.session.specs.declared.Session.{Session}
 use Rattle.script.specs.Records.{recordSize}
-use Rattle.script.proofs.Laws.{part-before, whole-before}
-use Rattle.runner.specs.Runner.{Prints, runRecord, recordLines}
+use Rattle.runner.specs.Runner.{Prints}
 use Rattle.runner.specs.Script.{Reading, hold, takeIn, reading}
 
 pub reading-append : (traced : Bool) (r : Reading) (xs ys : List ℕ)
@@ -40,35 +37,6 @@ waits traced s said p (x ∷ xs) h =
       waits traced s said (p ++ (x ∷ [])) xs (λ k l. rw append-assoc (h (suc k) (omega arith))),
       append-assoc,
     )
-
-module _ (traced : Bool) (s : Session) (said bytes : List ℕ) where
-  -- a record that is not whole waits
-  pub reading-part : recordSize bytes ≡ 0
-      → reading traced (record { session = s; begun = []; said = said }) bytes
-      ≡ record { session = s; begun = bytes; said = said }
-  reading-part e = waits traced s said [] bytes (λ k l. part-before bytes (suc k) e)
-
-module _ (traced : Bool) (s : Session) (said bytes : List ℕ) where
-  -- a whole one is run, and its lines are said
-  pub reading-whole : (n : ℕ) → recordSize bytes ≡ suc n
-      → reading traced (record { session = s; begun = []; said = said }) (take (suc n) bytes)
-      ≡ record {
-        session = runRecord s (take (suc n) bytes);
-        begun = [];
-        said = said ++ recordLines s (take (suc n) bytes) traced;
-      }
-  unfolding reading takeIn hold
-  reading-whole n e =
-      let at = whole-before bytes n (rw e (omega arith)) in
-      let last : take (suc n) bytes ≡ take n bytes ++ (getD bytes n 0 ∷ []) =
-      take-suc bytes n 0 (omega (arith, at .2, e)) in
-      let some : eqb (recordSize (take n bytes ++ (getD bytes n 0 ∷ []))) 0 ≡ false =
-      rw (← last) (ne-eqb (recordSize (take (suc n) bytes)) 0 (λ z. absurd (omega (arith, z, rw e at (at .1))))) in
-      rw (
-        last,
-        reading-append traced _ (take n bytes) (getD bytes n 0 ∷ []),
-        reading-part traced s said (take n bytes) (at .0),
-      ) (if-false _ _ some)
 
 -- a line, and what the trace form shows behind it
 pub shown-behind : {line before first second : List ℕ} {n m : ℕ} (shown : List ℕ) → Says line before first n

@@ -78,15 +78,7 @@ size-at bytes h =
     let e = head-same bytes n (omega arith) in
     size-whole (take n bytes) (rw (e, length-take) (omega arith)) ∙ rw e
 
--- in other words: a record that is not whole was not whole with fewer bytes, and a whole one neither
-pub part-before : (bytes : List ℕ) (k : ℕ) → recordSize bytes ≡ 0 → recordSize (take k bytes) ≡ 0
-part-before bytes k e =
-    caseLt (length bytes) (header + u16 bytes 0)
-    (λ l.
-    caseLt k (header + u16 bytes 0) (size-before bytes k)
-    (λ m. rw (take-all k bytes (omega arith)) e))
-    (λ l. absurd (omega (arith, size-whole bytes l, e)))
-
+-- in other words
 pub whole-before : (bytes : List ℕ) (k : ℕ) → k < recordSize bytes → (recordSize (take k bytes) ≡ 0)
     × (recordSize (take (recordSize bytes) bytes) ≡ recordSize bytes) × (recordSize bytes ≤ length bytes)
 whole-before bytes k h =
