@@ -52,11 +52,13 @@ class Refusals(unittest.TestCase):
         for file in "lib", "sets", "sets/small":
             (self.crate / "src" / f"{file}.rt").write_text(SOURCE)
 
-    def judged(self, where, place, *lines):
-        """What is amiss with a wrong answer at WHERE, PLACE, given what the checker said."""
+    def judged(self, where, place, *lines, beside=()):
+        """What is amiss with a wrong answer at WHERE, PLACE, given what the checker said. Its file has answers for the
+        same function at the places `beside`."""
         log = "\n".join(line.replace("AT/", f"{self.crate}/") for line in lines)
         (self.crate / ".log").write_text(log)
-        return refusals.judged("box", refusals.Wrong("x", where, place, "fact"), refusals.first_words(self.crate), log)
+        wrong = refusals.Wrong("x", where, place, "fact")
+        return refusals.judged("box", wrong, [place, *beside], refusals.first_words(self.crate), log)
 
     def refused(self, words, *lines):
         """What is amiss where the checker says this of `take`, at the place that was to be refused."""
@@ -77,6 +79,19 @@ class Refusals(unittest.TestCase):
         )
         self.assertIsNone(self.judged("Set::add", "returns-2", *said))
         self.assertIn("refused at returns-2", self.judged("Set::add", "returns", *said))
+
+    def test_several_of_one_function(self):
+        said = (
+            "AT/proofs/take/Proof.antt:9:1: error: `returns`: give a proof of that",
+            "AT/proofs/take/Proof.antt:12:1: error: `returns-2`: `foo` is not in scope",
+            "AT/proofs/take/Proof.antt:12:9: error: `returns-2`: give a proof of that",
+            "fn box::take: not proved",
+        )
+        self.assertIsNone(self.judged("take", "returns", *said, beside=["returns-2"]))
+        self.assertIn("for its shape", self.judged("take", "returns-2", *said, beside=["returns"]))
+        for beside in ["returns-3"], ["returns-2", "returns-3"], ["returns"]:
+            self.assertIn("is to be refused at", self.judged("take", "returns", *said, beside=beside))
+        self.assertIn("is to be refused at", self.judged("take", "returns", said[0], said[-1], beside=["returns-2"]))
 
     def test_a_fact_that_no_search_finds(self):
         said = (

@@ -1,4 +1,4 @@
-// Document 01's cases P1 to P10 through the code: a line for each row of the table in specs/Cases.antt, with the case
+// Document 01's cases P1 to P10 through the code: a line for each row of the table in the crate table, with the case
 // and the row's numbers. The file stdout beside src/ is written from document 01, not from what this program once
 // printed.
 use deliver::Delivered;

@@ -1,5 +1,5 @@
 -- Examples at both sides of the window's limits, and of the slips that document 01 excludes, computed from the
--- definitions. P2 to P6 stand here as one message does them; the cases themselves are proved in the crate `cases`.
+-- definitions. P2 to P6 stand here as one message does them; the cases themselves are proved in the crate `table`.
 -- Assumes nothing.
 use Prim.Native.Nat.{ℕ}
 use mathlib.Core.Path.{_≡_, refl}

@@ -7,7 +7,7 @@ use Rattle.logic.proofs.Cases.{and-both}
 use Rattle.window.specs.Absorb.{sameBytes}
 use Rattle.window.proofs.Same.{same-eq}
 use Rattle.deliver.proofs.Computing.{delivering}
-use Rattle.cases.specs.Cases.{Row, played, table}
+use Rattle.table.specs.Cases.{Row, played, table}
 
 -- in each row the two lists hold the same numbers: one test that antt computes. As an equation of lists, `refl` on the
 -- sessions of P6 runs past antt's step limit
