@@ -10,7 +10,6 @@ use lib.Seq.{take-take}
 use Rattle.params.specs.declared.SessionParams.{SessionParams}
 use Rattle.wire.specs.declared.Body.{Body}
 use Rattle.wire.specs.declared.Body.the-variants as Body′
-use Rattle.wire.specs.declared.InputsBody.{InputsBody}
 use Rattle.wire.specs.declared.DigestBody.{DigestBody}
 use Rattle.wire.specs.declared.Message.{Message}
 use Rattle.window.specs.Window.{frameOf}
@@ -25,13 +24,13 @@ use Rattle.pump.specs.declared.Outbound.{Outbound}
 use Rattle.pump.specs.declared.Outbound.the-variants.{Send, Nothing, BadState}
 use Rattle.pump.specs.declared.Pumped.{Pumped}
 use Rattle.pump.specs.declared.Saying.{Saying}
-use Rattle.pump.specs.declared.Saying.the-variants.{Silent, Says}
+use Rattle.pump.specs.declared.Saying.the-variants.{Says}
 use Rattle.pump.specs.Pump.{inputsOf, digestOf, saying, quiet, passEnds, send, pump}
 use Rattle.pump.proofs.Laws.{Pumps, refused, ended, sends, pump-is, pump-moves, told, message-sent}
 use Rattle.pump.proofs.Newest.{inputs-sent}
 use Rattle.logic.proofs.Cases.{byTest}
 use Rattle.agreement.specs.World.{Mail, runOn, mailed, pumpTurn}
-use Rattle.agreement.specs.Demand.{Pressed, Said}
+use Rattle.agreement.specs.Demand.{Said}
 use Rattle.agreement.proofs.Facts.{Log, SessOk, BodyOk, MailOk, TurnOk}
 use Rattle.agreement.proofs.Grow.{single, same-refl}
 

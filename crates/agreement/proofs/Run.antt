@@ -1,7 +1,7 @@
 -- Every run keeps the facts.
 -- Assumes nothing.
 use Prim.Native.Nat.{ℕ, zero, suc, _≤_, _<_}
-use mathlib.Core.Path.{_≡_, refl, sym, ap, _∙_}
+use mathlib.Core.Path.{_≡_, refl}
 use mathlib.Core.Logic.{_⊎_, inl, inr}
 use mathlib.Core.Bool.{true≢false}
 use mathlib.Core.List.{List, [], _∷_, _++_, List·Memᴰ, List·Memᴰ·head, List·Memᴰ·tail, List·Memᴰ·append-cases}
@@ -10,11 +10,9 @@ use native.Mathlib.Omega.{arith}
 use lib.ListN.{getElem?}
 use borrow.Author.Tests.{eqb-true, eqb-false, ltb-true}
 use Rattle.logic.proofs.Cases.{byTest}
-use Rattle.peer.specs.Seats.{seats}
 use Rattle.params.specs.declared.SessionParams.{SessionParams}
 use Rattle.params.proofs.Laws.{sound}
 use Rattle.window.proofs.Laws.{fresh-sized, fresh-holds}
-use Rattle.fingerprint.specs.Cells.{ownFor, noPrints}
 use Rattle.fingerprint.proofs.Laws.{new-sized, ownFor-new, remoteFor-new}
 use Rattle.session.specs.declared.Session.{Session}
 use Rattle.session.specs.Session.{freshHead}

@@ -1,10 +1,10 @@
 -- Demand 3: every run of few presses meets it.
 -- Assumes nothing.
-use Prim.Native.Nat.{ℕ, zero, suc, _≤_, _<_}
+use Prim.Native.Nat.{ℕ, zero, suc, _<_}
 use mathlib.Core.Path.{_≡_, sym, ap, _∙_}
 use mathlib.Core.List.{List, []}
 use native.Mathlib.Omega.{arith}
-use lib.ListN.{getD, length, take}
+use lib.ListN.{getD, take}
 use lib.Seq.{ext-getD}
 use Rattle.logic.proofs.Cases.{caseLt}
 use Rattle.peer.specs.Seats.{seats}

@@ -3,7 +3,7 @@
 use Prim.Native.Nat.{ℕ, _<_, _≤_}
 use mathlib.Core.Path.{_≡_, refl, sym}
 use mathlib.Core.Logic.{_≢_}
-use mathlib.Core.Bool.{Bool, true, false, not, true≢false}
+use mathlib.Core.Bool.{true, false, not, true≢false}
 use native.Mathlib.Omega.{arith}
 use lib.ListN.{length, length-set, getD-replicate, List·getD-eq-default}
 use lib.Seq.{set-out, getD-set-same, getD-set-other}

@@ -1,7 +1,6 @@
 -- Worked examples of document 01, computed from the definitions. Assumes nothing.
 use mathlib.Core.Path.{_≡_, refl}
-use mathlib.Core.Bool.{Bool, true, false}
-use Prim.Native.Nat.{ℕ}
+use mathlib.Core.Bool.{true, false}
 use Rattle.peer.specs.Seats.{seats, has, setOf, every, tally, firstSeats}
 use Rattle.peer.specs.Seats.{adding, removing, less, isSubset, seatCount}
 

@@ -2,7 +2,7 @@
 -- Assumes nothing.
 use Prim.Native.Nat.{ℕ, zero, suc, _+_, _-_, _*_, _<_, _≤_}
 use mathlib.Core.Path.{_≡_, refl, sym, ap, _∙_}
-use mathlib.Core.Bool.{true, false, not}
+use mathlib.Core.Bool.{true, false}
 use mathlib.Core.List.{List}
 use native.Mathlib.Omega.{arith}
 use native.Mathlib.Nat.{mul-le-mul, suc-mul}
@@ -36,7 +36,7 @@ use Rattle.pump.specs.declared.Saying.the-variants.{Says}
 use Rattle.pump.specs.declared.Outbound.the-variants.{Send}
 use Rattle.pump.specs.declared.Pumped.{Pumped}
 use Rattle.pump.specs.Pump.{span, carried, firstTick, runBytes, runByte, runFrom, runOf, inputsOf}
-use Rattle.pump.specs.Pump.{digestOf, saying, quiet, passEnds, runBeside, send, sent, pump}
+use Rattle.pump.specs.Pump.{digestOf, saying, quiet, passEnds, runBeside, send, pump}
 use Rattle.pump.proofs.Loops.{span-ticks, carried-le, carried-next}
 use Rattle.pump.proofs.Laws.{told, Pumps, refused, ended, sends, pump-is, message-of}
 

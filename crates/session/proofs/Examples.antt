@@ -9,7 +9,6 @@ use lib.ListN.{replicate}
 use Rattle.peer.specs.Seats.{seats}
 use Rattle.params.specs.declared.SessionParams.{SessionParams}
 use Rattle.window.specs.Window.{writeFrame}
-use Rattle.session.specs.declared.WorldDigest.{WorldDigest}
 use Rattle.session.specs.declared.WorldDigest.the-variants.{Absent, Present}
 use Rattle.session.specs.declared.Session.{Session}
 use Rattle.session.specs.declared.Advance.{Advance}

@@ -1,7 +1,7 @@
 -- Document 01, "Step and commit".
 -- Assumes nothing.
 use Prim.Native.Nat.{ℕ, _%_}
-use mathlib.Core.Bool.{Bool, true, false, not}
+use mathlib.Core.Bool.{Bool, not}
 use mathlib.Core.List.{List}
 use lib.Dec.{eqb}
 use lib.ListN.{replicate}

@@ -1,6 +1,6 @@
 -- The rules for a frame as one law by cases, the law for a run of frames, and what follows from them: counters never
 -- fall, and a frame that is held within the window stays as it is, so that the first write wins. Assumes nothing.
-use Prim.Native.Nat.{ℕ, zero, suc, _+_, _*_, _-_, _<_, _≤_, min}
+use Prim.Native.Nat.{ℕ, zero, suc, _+_, _-_, _<_, _≤_}
 use mathlib.Core.Path.{_≡_, refl, ap, sym, _∙_}
 use mathlib.Core.Logic.{_≢_}
 use mathlib.Core.List.{List}
@@ -13,14 +13,14 @@ use Rattle.logic.proofs.Cases.{byTest, caseEq}
 use Rattle.peer.specs.Seats.{seats}
 use Rattle.peer.specs.Cells.{window, slotOf}
 use Rattle.params.specs.Params.{maxWidth}
-use Rattle.window.specs.Window.{isHeld, frameOf, writeFrame, written}
+use Rattle.window.specs.Window.{isHeld, frameOf, written}
 use Rattle.window.specs.Absorb.{Absorbed, sameBytes, noted, repeats, stores, absorbOne}
 use Rattle.window.specs.Absorb.{frameAt, untouched, absorbFirst, absorbInputs}
 use Rattle.wire.specs.declared.InputsBody.{InputsBody}
 use Rattle.window.specs.declared.Window.{Window}
 use Rattle.window.specs.declared.Note.the-variants.{OutOfWindow, Contradiction}
 use Rattle.window.proofs.Same.{same-eq, same-refl}
-use Rattle.window.proofs.Laws.{Sized, Holds, write-is, written-sized, is-held-same}
+use Rattle.window.proofs.Laws.{Sized, Holds, write-is, written-sized}
 use Rattle.window.proofs.Laws.{is-held-seat, is-held-cell, frame-other}
 
 -- one premise for each rule

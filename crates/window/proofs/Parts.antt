@@ -1,10 +1,10 @@
 -- Reading a part of a list in which another list was pasted.
 -- Assumes nothing.
 use Prim.Native.Nat.{ℕ, _+_, _-_, _≤_}
-use mathlib.Core.Path.{_≡_, refl, ap, sym, _∙_}
+use mathlib.Core.Path.{_≡_, ap, sym, _∙_}
 use mathlib.Core.List.{List, _++_, append-assoc}
 use native.Mathlib.Omega.{arith}
-use lib.ListN.{length, take, drop, take-append-drop, length-take, length-drop, length-append}
+use lib.ListN.{length, take, drop, take-append-drop, length-drop}
 use lib.Seq.{paste, take-append-le, drop-append-le, drop-drop, drop-paste, take-at, drop-at, length-take-le}
 
 module _ (d : List ℕ) (at : ℕ) (s : List ℕ) (n : ℕ) (fits : at + n ≤ length d) (long : n ≤ length s) where

@@ -1,7 +1,7 @@
 -- Both sides of each limit of the malformed reasons, computed from the definitions: one table under a single proof for
 -- each kind. Assumes nothing.
 use mathlib.Core.Path.{_≡_, refl}
-use mathlib.Core.List.{List, [], _∷_}
+use mathlib.Core.List.{[], _∷_}
 use Prim.Native.Nat.{ℕ, _+_, _-_}
 use Rattle.peer.specs.Seats.{seats}
 use lib.ListN.{replicate}

@@ -1,7 +1,6 @@
 -- What a message is that has a good form.
 -- Assumes nothing.
-use mathlib.Core.Path.{_≡_, refl}
-use mathlib.Core.Bool.{Bool, true, false, not}
+use mathlib.Core.Path.{_≡_}
 use mathlib.Core.List.{List}
 use Prim.Native.Nat.{ℕ, _+_, _*_, _≤_, _<_}
 use native.Mathlib.Omega.{arith}
@@ -13,8 +12,6 @@ use Rattle.logic.proofs.Cases.{byTest}
 use Rattle.peer.specs.Seats.{seats}
 use Rattle.params.specs.Params.{maxWidth}
 use Rattle.params.proofs.Laws.{Within, inside}
-use Rattle.wire.specs.declared.Body.{Body}
-use Rattle.wire.specs.declared.Body.the-variants.{Inputs}
 use Rattle.wire.specs.declared.InputsBody.{InputsBody}
 use Rattle.wire.specs.declared.Message.{Message}
 use Rattle.wire.specs.declared.Form.{Form}

@@ -1,7 +1,7 @@
 -- Document 01, "Message records from wire.rs", and the malformed reasons: lowest number wins, only those that fit the
 -- kind. Assumes nothing.
 use Prim.Native.Nat.{ℕ, _+_, _*_}
-use mathlib.Core.Bool.{Bool, not}
+use mathlib.Core.Bool.{not}
 use mathlib.Core.List.{List}
 use lib.Dec.{eqb, ltb}
 use lib.ListN.{length}

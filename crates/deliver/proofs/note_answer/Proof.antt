@@ -1,5 +1,5 @@
 -- `deliver::note_answer` meets its contract. Assumes nothing.
-use mathlib.Core.Path.{_≡_, refl, sym, ap, _∙_}
+use mathlib.Core.Path.{sym, _∙_}
 use borrow.Author.Needs.{needs}
 use Rattle.logic.proofs.Cases.{if-true, if-false}
 use Rattle.deliver.specs.Deliver.{noteAnswer}

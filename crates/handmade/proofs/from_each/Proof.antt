@@ -1,5 +1,5 @@
 -- `handmade::from_each` is safe and ends: each turn passes a whole record. Assumes nothing.
-use mathlib.Core.Path.{_≡_, sym, _∙_}
+use mathlib.Core.Path.{_≡_}
 use Prim.Native.Nat.{_+_, _-_, _≤_, _<_}
 use denote.Ref.{now}
 use native.Mathlib.Omega.{arith}

@@ -1,6 +1,6 @@
 -- `pump::run_from` meets its contract: the run is filled from the front, and past the frames it is zero.
 -- Assumes nothing.
-use mathlib.Core.Path.{_≡_, refl, sym, _∙_}
+use mathlib.Core.Path.{_≡_}
 use mathlib.Core.List.{List}
 use Prim.Native.Nat.{ℕ, _-_, _*_, _≤_, min}
 use native.Mathlib.Omega.{arith}

@@ -1,5 +1,4 @@
 -- `stream::run_bytes` meets its contract: one piece, before which nothing has begun. Assumes nothing.
-use Prim.Native.Nat.{_≤_}
 use mathlib.Core.Path.{ap, _∙_}
 use native.Mathlib.Omega.{arith}
 use borrow.Author.Needs.{needs}

@@ -1,5 +1,5 @@
 -- `session::Head::maybe_start` meets its contract. Assumes nothing.
-use mathlib.Core.Path.{_≡_, refl, sym, ap, _∙_}
+use mathlib.Core.Path.{sym, _∙_}
 use borrow.Author.Needs.{needs}
 use Rattle.logic.specs.Test.{if_then_else_}
 use Rattle.session.specs.Session.{started}
