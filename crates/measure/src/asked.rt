@@ -105,3 +105,12 @@ pub(crate) fn size(call: u8) -> usize
         _ => 0,
     }
 }
+
+// The letter that stands for all of a call's.
+pub(crate) fn kind(call: u8) -> u8 {
+    match call {
+        b'x' => b's',
+        b'h' | b'i' | b'e' | b'f' => b'd',
+        _ => call,
+    }
+}

@@ -22,20 +22,24 @@ pub(crate) fn play(calls: &[u8], again: usize, turns: u64, lined: bool) -> u64 {
     while left > 0 {
         let call = asked::call_at(calls, at);
         let n = asked::size(call);
-        match call {
+        // Before the match for the reason that in_place.rt gives.
+        sum = told::add(sum, said);
+        at = asked::place_after(calls, at, again);
+        left -= 1;
+        match asked::kind(call) {
             b'o' => {
                 let r = Session::open(asked::pair());
                 let answer = r.answer;
                 s = r.session;
                 said = told::open(&mut line, lined, answer);
             }
-            b's' | b'x' => {
+            b's' => {
                 let r = s.submit(&presses[..n]);
                 let answer = r.answer;
                 s = r.session;
                 said = told::submit(&mut line, lined, answer);
             }
-            b'h' | b'i' | b'e' | b'd' | b'f' => {
+            b'd' => {
                 let message = asked::message(call, s.head.play.pending);
                 let r = deliver::deliver(s, 1, message, &presses[..n]);
                 let answer = r.answer;
@@ -80,9 +84,12 @@ pub(crate) fn play(calls: &[u8], again: usize, turns: u64, lined: bool) -> u64 {
                 said = told::nothing();
             }
         }
-        sum = told::add(sum, said);
-        at = asked::place_after(calls, at, again);
-        left -= 1;
     }
-    told::whole(sum, &line, said.size, s.head.stats, s.head.play.pending)
+    told::whole(
+        told::add(sum, said),
+        &line,
+        said.size,
+        s.head.stats,
+        s.head.play.pending,
+    )
 }

@@ -29,7 +29,7 @@ pub(crate) fn play(calls: &[u8], again: usize, turns: u64, lined: bool) -> u64 {
     let mut states = [0u64; fingerprint::CELLS];
     let mut inputs = [0u64; fingerprint::CELLS];
     let mut line = [0u8; text::LIMIT];
-    let opened = Head::open(
+    let mut head = Head::open(
         asked::pair(),
         &mut ring,
         &mut ticks,
@@ -38,8 +38,7 @@ pub(crate) fn play(calls: &[u8], again: usize, turns: u64, lined: bool) -> u64 {
         &mut printed,
         &mut states,
         &mut inputs,
-    );
-    let mut head = opened.head;
+    ).head;
     let mut said = told::nothing();
     let mut sum: u64 = 0;
     let mut at: usize = 0;
@@ -47,7 +46,12 @@ pub(crate) fn play(calls: &[u8], again: usize, turns: u64, lined: bool) -> u64 {
     while left > 0 {
         let call = asked::call_at(calls, at);
         let n = asked::size(call);
-        match call {
+        // Before the match, the last call's answer: behind it the arms would have to meet, and the check of that goes
+        // by the square of the locals.
+        sum = told::add(sum, said);
+        at = asked::place_after(calls, at, again);
+        left -= 1;
+        match asked::kind(call) {
             b'o' => {
                 let r = Head::open(
                     asked::pair(),
@@ -63,13 +67,13 @@ pub(crate) fn play(calls: &[u8], again: usize, turns: u64, lined: bool) -> u64 {
                 head = r.head;
                 said = told::open(&mut line, lined, answer);
             }
-            b's' | b'x' => {
+            b's' => {
                 let r = head.submit(&mut ring, &mut ticks, &mut present, &presses[..n]);
                 let answer = r.answer;
                 head = r.head;
                 said = told::submit(&mut line, lined, answer);
             }
-            b'h' | b'i' | b'e' | b'd' | b'f' => {
+            b'd' => {
                 let r = deliver::deliver_in(
                     head,
                     &mut ring,
@@ -133,9 +137,12 @@ pub(crate) fn play(calls: &[u8], again: usize, turns: u64, lined: bool) -> u64 {
                 said = told::nothing();
             }
         }
-        sum = told::add(sum, said);
-        at = asked::place_after(calls, at, again);
-        left -= 1;
     }
-    told::whole(sum, &line, said.size, head.stats, head.play.pending)
+    told::whole(
+        told::add(sum, said),
+        &line,
+        said.size,
+        head.stats,
+        head.play.pending,
+    )
 }

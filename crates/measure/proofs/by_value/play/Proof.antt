@@ -1,5 +1,4 @@
 -- `measure::by_value::play` is safe and ends: the turns are counted down. Assumes nothing.
-use Prim.Native.Nat.{_≤_}
 use mathlib.Core.Path.{sym}
 use native.Mathlib.Omega.{arith}
 use borrow.Author.Needs.{needs}
@@ -8,7 +7,7 @@ use Rattle.measure.proofs.by_value.play.Statement.{statement}
 use Rattle.measure.proofs.by_value.play.Tie as tie
 
 abbrev Inv-loop : tie.InvT-loop
-Inv-loop calls again turns lined presses line₀ s₀ said₀ sum₀ at₀ left₀ line s said sum at left = left ≤ turns
+Inv-loop calls again turns lined presses line₀ s₀ said₀ sum₀ at₀ left₀ line s said sum at left = Unit
 
 abbrev μ-loop : tie.MeasureT-loop
 μ-loop calls again turns lined presses line₀ s₀ said₀ sum₀ at₀ left₀ line s said sum at left = left
@@ -24,9 +23,13 @@ pub play-spec : {M : Type 1} → statement M
 play-spec =
     tie.close
     (tie.spec Inv-loop μ-loop
+    (search needs) (search needs) (search needs) (search needs) (search needs) (search needs) (search needs)
+    (search needs) (λ c. omega arith) (search needs) (search needs) (search needs) (search needs)
+    (λ c. omega arith) (search needs) (search needs) submit-part (search needs) (search needs)
+    (λ c. omega arith) (search needs) (search needs) (search needs) deliver-part (search needs)
+    (search needs) (λ c. omega arith) (search needs) (search needs) (search needs) (λ c. omega arith)
     (search needs) (search needs) (search needs) (λ c. omega arith) (search needs) (search needs) (search needs)
-    (search needs) (search needs) (search needs) submit-part (search needs) (search needs) (search needs)
-    (search needs) (search needs) (search needs) (search needs) (search needs) (search needs) (search needs)
-    (search needs) (search needs) (search needs) (search needs) (search needs) (search needs) (search needs)
-    deliver-part (search needs) (search needs) (search needs) (search needs) (search needs) (λ c. omega arith)
-    (λ c. omega arith) (λ c. omega arith) (search needs) (search needs))
+    (search needs) (λ c. omega arith) (search needs) (search needs) (search needs) (λ c. omega arith)
+    (search needs) (search needs) (search needs) (λ c. omega arith) (search needs) (search needs) (search needs)
+    (λ c. omega arith) (search needs) (search needs) (λ c. omega arith) (search needs) (search needs)
+    (search needs) (search needs))
