@@ -64,12 +64,19 @@ def holds_each(seats, wanted):
 # --- State hash: FNV-1a 64, no length mixed in -------------------------------
 
 HASH_START = 14695981039346656037
-HASH_FACTOR = 1_099_511_628_211
+# The prime, 1,099,511,628,211, is 2^PRIME_SHIFT + PRIME_REST.
+PRIME_SHIFT = 40
+PRIME_REST = 435
+
+
+def times_prime(value):
+    """Modulo 2^64, part by part: times a power of two is a shift."""
+    return ((value << PRIME_SHIFT) + PRIME_REST * value) % 2**64
 
 
 def absorb(value, data):
     for byte in data:
-        value = (value ^ byte) * HASH_FACTOR % 2**64
+        value = times_prime(value ^ byte)
     return value
 
 

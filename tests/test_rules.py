@@ -13,6 +13,7 @@ import struct
 import sys
 import tempfile
 import unittest
+from unittest import mock
 
 import outside
 import rules
@@ -135,6 +136,22 @@ class Sets(unittest.TestCase):
             self.assertFalse(rules.contains(255 - (1 << seat), seat))
 
 
+# As document 01 writes it, so that the parts in rules.py are held to the whole.
+PUBLISHED_PRIME = 1_099_511_628_211
+
+
+def hash_values():
+    """Edges, of which 2^24 is the first that a shift by 40 pushes out of 64 bits, and others."""
+    around = [2**power + offset for power in (24, 40, 63) for offset in (-1, 0, 1)]
+    rng = random.Random(6)
+    return [0, 1, *around, U64_MAX - 1, U64_MAX, *(rng.getrandbits(64) for _ in range(300))]
+
+
+def wrongly_multiplied():
+    """The byte 0 leaves a value as it is, so that absorbing it only multiplies."""
+    return [value for value in hash_values() if rules.absorb(value, b"\0") != value * PUBLISHED_PRIME % 2**64]
+
+
 class Hash(unittest.TestCase):
     def test_p10_and_published_vectors(self):
         vectors = {
@@ -144,6 +161,18 @@ class Hash(unittest.TestCase):
         }
         for data, value in vectors.items():
             self.assertEqual(rules.absorb(rules.HASH_START, data), value)
+
+    def test_multiplies_by_the_published_prime(self):
+        self.assertEqual(wrongly_multiplied(), [])
+
+    def test_a_wrong_shift_or_rest_is_noticed(self):
+        # An odd value has an inverse modulo 2^64, so another factor always gives it another product.
+        odd = {value for value in hash_values() if value % 2}
+        self.assertLess({1, U64_MAX}, odd)
+        wrong = [("PRIME_SHIFT", 39), ("PRIME_SHIFT", 41), ("PRIME_REST", 434), ("PRIME_REST", 436)]
+        for name, number in wrong:
+            with mock.patch.object(rules, name, number):
+                self.assertEqual(odd - set(wrongly_multiplied()), set(), (name, number))
 
     def test_numbers_go_in_little_endian(self):
         start = rules.HASH_START

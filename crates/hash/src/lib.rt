@@ -5,7 +5,10 @@ ghost use Rattle.hash.specs.Fnv.{start, prime, step, fnv, leBytes};
 
 const START: u64 = 14695981039346656037;
 
-const PRIME: u64 = 1099511628211;
+// The prime, 1099511628211, is 2^40 + 435.
+const PRIME_SHIFT: u64 = 40;
+
+const PRIME_REST: u64 = 435;
 
 // The base of the two halves of a u64.
 const HALF: u64 = 0x1_0000_0000;
@@ -23,11 +26,12 @@ pub fn wrapping_mul(a: u64, b: u64) -> u64
     std::num::wrapping_add_u64(a0 * b0, cross << 32)
 }
 
-// The value times the prime.
+// The value times the prime, modulo 2^64: times its power of two by a shift, of which the high bits fall off, plus times
+// the rest of it.
 fn times_prime(h: u64) -> u64
     ensures { λ r. ⌜ r ≡ h * prime % 2 ^ 64 ⌝ }
 {
-    wrapping_mul(h, PRIME)
+    std::num::wrapping_add_u64(h << PRIME_SHIFT, wrapping_mul(h, PRIME_REST))
 }
 
 // A fingerprint in progress. Absorbing hands the next one back, so the order of what goes in is written out as an
