@@ -1,6 +1,6 @@
 -- What a reader of the rules wants to see said of a delivery: 20 and an ended session change nothing at all, a refusal
--- changes nothing but the counters and the sender's playing mark, the first outcome stays, no counter falls, and a
--- frame that is held is never overwritten. Assumes nothing.
+-- changes nothing but the counters and the sender's playing mark, parameters, ticks and the first outcome stay, no
+-- counter falls, and a frame that is held is never overwritten. Assumes nothing.
 use Prim.Native.Nat.{ℕ, _+_, _≤_, _<_}
 use mathlib.Core.Path.{_≡_, refl, sym, ap, _∙_}
 use mathlib.Core.List.{List}
@@ -84,12 +84,18 @@ pub data WindowOf (s : Session) (w : Window) : Type 0 where
       → w ≡ absorbInputs (s .window) (s .head .stats .«frames_repeated») (s .head .play .pending) sender i run .window
       → WindowOf s w
 
+-- what no delivery changes of a head: the parameters, and how far the player is
+pub record Keeps (h k : Head) : Type 0 where
+  pub params : k .params ≡ h .params
+  pub play : k .play ≡ h .play
+
 pub record OfDelivery (s : Session) (r : Delivered) : Type 0 where
   -- 21 to 31 change the marks and the counters alone
   pub refused : (x : Refusal) → r .answer ≡ Refused x → OnlyMarks s (r .session)
   -- no counter falls
   pub rises : Each _≤_ (s .head .stats) (r .session .head .stats)
   pub window : WindowOf s (r .session .window)
+  pub keeps : Keeps (s .head) (r .session .head)
 
 abbrev rises-not : (c : SessionStats) → Each _≤_ c c
 rises-not c = record {
@@ -111,20 +117,40 @@ rises-then {a} {b} {c} f g = record {
   stalls = omega arith;
 }
 
--- an answer that is no refusal, over a session with the same counters and the same window
-calm : {s : Session} (t : Session) (a : Delivery) → ((x : Refusal) → a ≡ Refused x → ⊥)
-    → t .head .stats ≡ s .head .stats → t .window ≡ s .window → OfDelivery s (delivered t a)
-calm {s} t a n e w =
-    record { refused = λ x q. absurd (n x q); rises = rw e (rises-not (s .head .stats)); window = same w }
+-- a session with the same counters, the same window and what no delivery changes
+record Calm (s t : Session) : Type 0 where
+  stats : t .head .stats ≡ s .head .stats
+  window : t .window ≡ s .window
+  keeps : Keeps (s .head) (t .head)
+
+unmoved : {s : Session} → Calm s s
+unmoved = record { stats = refl; window = refl; keeps = record { params = refl; play = refl } }
+
+-- an answer over it that is no refusal
+calm : {s : Session} (t : Session) (a : Delivery) → ((x : Refusal) → a ≡ Refused x → ⊥) → Calm s t
+    → OfDelivery s (delivered t a)
+calm {s} t a n c = record {
+  refused = λ x q. absurd (n x q);
+  rises = rw (c .stats) (rises-not (s .head .stats));
+  window = same (c .window);
+  keeps = c .keeps;
+}
 
 -- ending and starting a session leave the counters
-ended-stats : (h : Head) (o : Outcome) → ended h o .stats ≡ h .stats
+ended-calm : (s t : Session) (o : Outcome) → Calm s t → Calm s (withHead t (ended (t .head) o))
 unfolding ended
-ended-stats h o = refl
+ended-calm s t o c = record { stats = c .stats; window = c .window; keeps = record { params = c .keeps .params; play = c .keeps .play } }
 
-started-stats : (h : Head) → started h .stats ≡ h .stats
+started-calm : (s : Session) (h : Head) → Calm s (withHead s h) → Calm s (withHead s (started h))
 unfolding started
-started-stats h = byTest (λ (k : Head). k .stats ≡ h .stats) (λ _. refl) (λ _. refl)
+started-calm s h c =
+    byTest (λ (k : Head). Calm s (withHead s k))
+    (λ _. record {
+      stats = c .stats;
+      window = refl;
+      keeps = record { params = c .keeps .params; play = c .keeps .play };
+    })
+    (λ _. c)
 
 not-accepted : (x : Refusal) → Accepted ≡ Refused x → ⊥
 not-accepted x e = let z : _≡_ {A = ℕ} 0 1 = cc in omega arith
@@ -143,6 +169,7 @@ refuse-of playing c x f fit = record {
   refused = λ _ _. record { playing = playing; stats = countedOf c (refusalNo x); is = refl };
   rises = rises-then f (counted-rises c (refusalNo x) fit);
   window = same refl;
+  keeps = record { params = refl; play = refl };
 }
 
 module _ (s : Session) (fit : Fit (s .head .stats)) where
@@ -150,16 +177,17 @@ module _ (s : Session) (fit : Fit (s .head .stats)) where
   plain-refusal x = refuse-of (s .head .marks .playing) (s .head .stats) x (rises-not (s .head .stats)) fit
 
   -- a session like s ends
-  end-of : (t : Session) (o : Outcome) → t .head .stats ≡ s .head .stats → t .window ≡ s .window
-      → OfDelivery s (heard t (endWith (t .head) o))
+  end-of : (t : Session) (o : Outcome) → Calm s t → OfDelivery s (heard t (endWith (t .head) o))
   unfolding endWith
-  end-of t o e w = calm {s = s} _ (Ended o) (not-ended o) (ended-stats (t .head) o ∙ e) w
+  end-of t o c = calm _ (Ended o) (not-ended o) (ended-calm s t o c)
 
   hello-of : (sender : ℕ) (h : HelloBody) → OfDelivery s (heard s (acceptHello (s .head) sender h))
   unfolding acceptHello greeted
   hello-of sender h =
       byTest (λ (r : HeadDelivered). OfDelivery s (heard s r))
-      (λ _. calm {s = s} _ Accepted not-accepted (started-stats _) refl) (λ _. plain-refusal _)
+      (λ _. calm _ Accepted not-accepted
+      (started-calm s _ record { stats = refl; window = refl; keeps = record { params = refl; play = refl } }))
+      (λ _. plain-refusal _)
 
 -- ---- frames
 
@@ -215,19 +243,29 @@ module _ (s : Session) (fit : Fit (s .head .stats)) (sender : ℕ) where
         (counted-rises (repeatedOf (s .head .stats) (a .repeated)) (refusalNo x)
         (repeated-fits (s .head .stats) (a .repeated) fits fit))
 
+    refuse-keeps : (x : Refusal) → Keeps (s .head) (refused taken x .head)
+    unfolding refused marked
+    refuse-keeps x = record { params = refl; play = refl }
+
     noted-refusal : (x : Refusal) → OfDelivery s (beside (noteAnswer (refused taken x) (a .wrote)))
     unfolding noteAnswer
     noted-refusal x =
         byTest (λ (r : HeadDelivered). OfDelivery s (beside r))
-        (λ _. record { refused = λ y q. absurd (not-accepted y q); rises = refuse-rises x; window = window })
+        (λ _. record {
+          refused = λ y q. absurd (not-accepted y q);
+          rises = refuse-rises x;
+          window = window;
+          keeps = refuse-keeps x;
+        })
         (unwritten-refusal x)
 
     noted-of : (note : Note) → OfDelivery s (beside (noted taken note (a .wrote)))
-    unfolding noted
+    unfolding noted marked
     noted-of Note′.Nothing = record {
       refused = λ x q. absurd (not-accepted x q);
       rises = repeated-rises (s .head .stats) (a .repeated) rises;
       window = window;
+      keeps = record { params = refl; play = refl };
     }
     noted-of (Note′.OutOfWindow tick pending) = noted-refusal _
     noted-of (Note′.Contradiction peer tick) = noted-refusal _
@@ -246,17 +284,19 @@ module _ (s : Session) (fit : Fit (s .head .stats)) (sender : ℕ) where
 
   -- ---- a Digest
 
-  judged-of : (t : Session) (tick : ℕ) → t .head .stats ≡ s .head .stats → t .window ≡ s .window
-      → OfDelivery s (judged t tick)
+  judged-of : (t : Session) (tick : ℕ) → Calm s t → OfDelivery s (judged t tick)
   unfolding judged
-  judged-of t tick e w =
-      byTest (OfDelivery s) (λ _. end-of s fit t _ e w) (λ _. calm {s = s} t Accepted not-accepted e w)
+  judged-of t tick c =
+      byTest (OfDelivery s) (λ _. end-of s fit t _ c) (λ _. calm t Accepted not-accepted c)
 
   hear-by-of : (d : DigestBody) (a : Arrival) → OfDelivery s (hearBy seen sender d a)
   unfolding hearBy marked
   hear-by-of d Contradicted = marked-refusal _
-  hear-by-of d Repeated = calm {s = s} seen Accepted not-accepted refl refl
-  hear-by-of d New = judged-of _ (d .tick) refl refl
+  hear-by-of d Repeated =
+      calm seen Accepted not-accepted
+      record { stats = refl; window = refl; keeps = record { params = refl; play = refl } }
+  hear-by-of d New =
+      judged-of _ (d .tick) record { stats = refl; window = refl; keeps = record { params = refl; play = refl } }
 
   digest-of : (d : DigestBody) → OfDelivery s (hear seen sender d)
   unfolding hear
@@ -269,7 +309,7 @@ module _ (s : Session) (fit : Fit (s .head .stats)) (sender : ℕ) where
   accept-of (Body′.Hello h) run low = hello-of s fit sender h
   accept-of (Body′.Inputs i) run low = inputs-of i run low
   accept-of (Body′.Digest d) run low = digest-of d
-  accept-of (Body′.Bye b) run low = end-of s fit s _ refl refl
+  accept-of (Body′.Bye b) run low = end-of s fit s _ unmoved
   accept-of (Body′.Other kind) run low = plain-refusal s fit _
 
 -- who is in the roster is a seat
@@ -306,13 +346,13 @@ module _ (s : Session) (fit : Fit (s .head .stats)) (source : ℕ) (m : Message)
 
   standing-of : (o : Standing) → OfDelivery s (deliverBy s source m run o)
   unfolding deliverBy
-  standing-of (Over o) = calm {s = s} s (Ended o) (not-ended o) refl refl
+  standing-of (Over o) = calm s (Ended o) (not-ended o) unmoved
   standing-of Open = form-of (formOf m run)
 
   pub of-delivery : OfDelivery s (deliver s source m run)
   unfolding deliver
   of-delivery =
-      byTest (OfDelivery s) (λ _. calm {s = s} s BadState not-bad refl refl)
+      byTest (OfDelivery s) (λ _. calm s BadState not-bad unmoved)
       (λ _. standing-of (s .head .outcome))
 
   -- ---- a frame that is held at or above pending is never overwritten
