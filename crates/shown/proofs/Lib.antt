@@ -1,0 +1,2 @@
+pub mod Front
+mod Examples
