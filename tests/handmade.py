@@ -2,11 +2,13 @@
 """What the program `handmade` must print, worked out from the rules.
 
     python3 tests/handmade.py --script    the script it is run on
-    python3 tests/handmade.py             its lines, in the trace form
+    python3 tests/handmade.py             its lines
 
 The sessions are those of crates/handmade/src/main.rt, in its order: none of them
 can be reached by calls. The script holds every kind of record, and is run on
-each session from its first record on, from its second on, and so on.
+each session from its first record on, from its second on, and so on, in the
+trace form. Then it is asked what is ready, of each of these sessions and of more
+whose windows are full or nearly so: of the record as built, and along the script.
 crates/handmade/stdin and stdout hold what this prints; a test says so.
 """
 
@@ -65,6 +67,36 @@ def sessions():
     yield session(params=TRIO._replace(count=9))
 
 
+def all_ready(ticks={}, seats={}, **changes):
+    """Every seat's frame for each of the ticks 0 to 63, but for the cells that
+    `ticks` and `seats` give another tick or another set."""
+    made = session(**changes)
+    made.ring_ticks = [ticks.get(cell, cell) for cell in range(rules.WINDOW)]
+    made.ring_seats = [seats.get(cell, 7) for cell in range(rules.WINDOW)]
+    return made
+
+
+def windows():
+    """Sessions whose windows are full, or full but for a gap."""
+    yield all_ready()
+    # The ring has turned by five cells.
+    yield all_ready(pending=5, next_local=69, ticks={cell: 64 + cell for cell in range(5)})
+    # Seat 2 is missing, far ahead and at once, and where strangers' bits are set.
+    yield all_ready(seats={40: 3})
+    yield all_ready(seats={0: 251})
+    yield all_ready(seats={**dict.fromkeys(range(11), 255), 11: 251})
+    # A cell that is one turn ahead.
+    yield all_ready(ticks={3: 67})
+    # Behind the last tick stand the cells that a sum modulo 2^64 would ask for.
+    last = {61: U64_MAX - 2, 62: U64_MAX - 1, 63: U64_MAX}
+    yield all_ready(pending=U64_MAX - 2, next_local=U64_MAX, ticks=last)
+    yield all_ready(pending=U64_MAX, next_local=U64_MAX, ticks={63: U64_MAX})
+    # Over, with a step out for some other tick.
+    yield all_ready(
+        playing=True, step=Step(True, 77, True), outcome=Outcome(rules.DESYNCED, 0, 0))
+    yield all_ready(params=TRIO._replace(count=9))
+
+
 def records():
     hello = rules.Hello(2, 5, rules.agreement(TRIO), 8, 9, 7, 3, 2, 1, 2)
     yield outside.submit_record(b"ab")
@@ -92,18 +124,29 @@ def records():
     yield outside.record(rules.ADVANCE)
 
 
+def runner(made):
+    """A runner with that session; one whose parameters fail is none to it."""
+    circle = rules.Circle()
+    circle.session = None if rules.is_bad(made) else made.copy()
+    return circle
+
+
 def lines():
     script = list(records())
     for made in sessions():
         for first in range(len(script)):
-            circle = rules.Circle()
-            # A session whose parameters fail is none to the runner.
-            circle.session = None if rules.is_bad(made) else made.copy()
+            circle = runner(made)
             for kind, payload in rules.records(b"".join(script[first:])):
                 yield circle.line(kind, payload)
                 yield from circle.trace()
     for answer, _ in numbers(session(params=TRIO._replace(count=9))):
         yield str(answer.number)
+    for made in (*sessions(), *windows()):
+        yield rules.ready_line(rules.ready(made))
+        circle = runner(made)
+        for kind, payload in rules.records(b"".join(script)):
+            yield circle.line(kind, payload)
+            yield circle.ready()
 
 
 def numbers(made):
@@ -115,6 +158,7 @@ def numbers(made):
     yield rules.leave(made)
     yield rules.pump(made)
     yield rules.report(made, bytearray(rules.TEXT_MAX))
+    yield rules.ready(made), made
 
 
 def main(words):

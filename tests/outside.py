@@ -1,20 +1,22 @@
 #!/usr/bin/env python3
 """Scripts outside the Rust's domain, and a program held against rules.py on them.
 
-    python3 tests/outside.py --program 'CMD' [--count K] [--seed N] [--trace | --carried]
-    python3 tests/outside.py --write DIRECTORY [--count K] [--seed N] [--trace | --carried]
+    python3 tests/outside.py --program 'CMD' [--count K] [--seed N] [FORM]
+    python3 tests/outside.py --write DIRECTORY [--count K] [--seed N] [FORM]
 
 The first runs CMD on every script (standard input) and compares what it prints
 with rules.py, line by line; the first difference is shown and the exit status
-is 1. `--trace` compares the trace form instead, `--carried` the values that the
-answers carry; CMD must then print that form.
+is 1. FORM is `--trace`, which compares the trace form instead, or `--carried`,
+the values that the answers carry, or `--ready`, how many ticks are ready after
+each record; CMD must then print that form.
 `--keep FILE` saves the script that showed the difference. The second writes
 each script with the lines expected of it.
 
 The same seed makes the same scripts. Fixed families cover each limit from both
-sides, each payload length and each cut; `--count` says how many random plays
-come on top of them. Scripts share a file where they can: one that needs the
-time before any open, or ends in a cut, has a file of its own.
+sides, a gap at each place of the window, each payload length and each cut;
+`--count` says how many random plays come on top of them. Scripts share a file
+where they can: one that needs the time before any open, or ends in a cut, has a
+file of its own.
 """
 
 import argparse
@@ -225,6 +227,41 @@ def limit_scripts():
     yield "limits of open, later", before + b"".join(edge + PUMP + ADVANCE for edge in opens)
 
 
+# --- Full windows ------------------------------------------------------------
+
+
+def frames_record(seat, first, count):
+    return message_record(seat, fitting_run(Inputs(seat, PARAMS.session, first, count, 2, b"")))
+
+
+def whole_window(seats):
+    """Every frame of a new session's window that these remotes owe."""
+    return b"".join(frames_record(seat, first, 8) for seat in seats for first in range(0, 64, 8))
+
+
+def gap_at(place):
+    """A window with one frame missing, then that one. A 65th frame is tried as
+    well, by the local seat and by a remote."""
+    script = open_record(PARAMS) + submit_record(b"aa") * 65 + whole_window([0])
+    for tick in (*range(place + 1, 65), *range(place), place):
+        script += frames_record(2, tick, 1)
+    return script
+
+
+def turns(ticks):
+    """A full window that is stepped on, and full again before each step."""
+    script = situations()["playing"] + submit_record(b"cc") * 62 + whole_window([0, 2])
+    for tick in range(ticks):
+        script += ADVANCE + commit_record(tick, tick % 2 == 0, tick) + submit_record(b"dd")
+        script += frames_record(2, tick + 64, 1) + frames_record(0, tick + 64, 1)
+    return script
+
+
+def window_scripts():
+    yield "a gap at each place", b"".join(gap_at(place) for place in range(64))
+    yield "a full window, turned", turns(130)
+
+
 # --- Payload lengths and unknown kinds ---------------------------------------
 
 KNOWN_KINDS = range(1, 13)
@@ -367,6 +404,18 @@ class Play:
         first = min(max(self.session.pending + offset, 0), U64_MAX - 8)
         self.inputs_from(self.remote(), first, self.rng.choice((1, 2, 7, 8)))
 
+    def fill(self):
+        """Frames far ahead from every seat, in any order, now and then with a run missing."""
+        pending, next_local = self.session.pending, self.session.next_local
+        reach = pending + self.rng.choice((20, 62, 63, 64, 64, 65))
+        for _ in range(next_local, reach):
+            self.submit()
+        remotes = rules.remotes(self.session)
+        runs = [(seat, first) for seat in remotes for first in range(pending, reach, 8)]
+        self.rng.shuffle(runs)
+        for seat, first in runs[self.rng.choice((0, 0, 1)) :]:
+            self.inputs_from(seat, first, min(8, reach - first))
+
     def digest(self):
         """Mostly what the commits of `commit` say: the state of a tick is the tick."""
         own = self.rng.choice(self.session.own)
@@ -463,6 +512,7 @@ WEIGHTS = {
     Play.submit: 8,
     Play.hello: 8,
     Play.inputs: 12,
+    Play.fill: 1,
     Play.digest: 6,
     Play.digest_again: 4,
     Play.commit: 4,
@@ -515,6 +565,7 @@ def play_scripts(seed, count):
 def all_scripts(seed, count):
     yield "empty", b""
     yield from limit_scripts()
+    yield from window_scripts()
     yield from length_scripts(seed)
     yield from cut_scripts(seed)
     yield from play_scripts(seed, count)
@@ -606,7 +657,11 @@ def main(arguments):
     parser.add_argument("--count", type=int, default=100, help="random plays (default 100)")
     parser.add_argument("--seed", type=int, default=1, help="default 1")
     form = parser.add_mutually_exclusive_group()
-    for name, what in (rules.TRACE, "the trace form"), (rules.CARRIED, "the values carried"):
+    for name, what in (
+        (rules.TRACE, "the trace form"),
+        (rules.CARRIED, "the values carried"),
+        (rules.READY, "how many ticks are ready"),
+    ):
         form.add_argument(
             name, dest="form", action="store_const", const=name, default=rules.PLAIN, help=f"compare {what}")
     parser.add_argument("--keep", type=pathlib.Path, help="file for the script that differs")

@@ -9,11 +9,13 @@ commit, pump and report, the script runner.
     python3 tests/rules.py < script > lines
     python3 tests/rules.py --trace < script > lines
     python3 tests/rules.py --carried < script > lines
+    python3 tests/rules.py --ready < script > lines
 
 Every call takes a session and gives `(answer, next session)`. The session that
 was passed in is never changed; a call that changes nothing gives back that
-same object. A session is a plain record: a test may put any u8 or u64 in any
-place and call anything on it.
+same object. `ready`, which request K1 added to the document's calls, is only a
+question and gives its answer alone. A session is a plain record: a test may put
+any u8 or u64 in any place and call anything on it.
 """
 
 import struct
@@ -233,8 +235,9 @@ class Answer(NamedTuple):
     the values carried:
 
     - 0 from submit: the tick; from pump ("send"): seat and message; from
-      report: the text's length; from advance: "waiting", or "step" with tick,
-      due and eight rows, or "stalled" with tick, missing seats and count
+      report: the text's length; from ready: the number of ticks; from advance:
+      "waiting", or "step" with tick, due and eight rows, or "stalled" with
+      tick, missing seats and count
     - 1: the outcome
     - 21: the reason and what it carries
     - of any other refusal: the values of the Rust enum's variant, in its order
@@ -471,6 +474,28 @@ def submit(session, frame):
     after.next_local = plus(tick, 1)
     start_if_ready(after)
     return Answer(DONE, "", (tick,)), after
+
+
+def has_every_frame(session, tick):
+    """What advance asks of the pending tick, asked of any. Above 2^64-1 there is
+    no tick: a sum that goes there is a gap, and never comes round to tick 0."""
+    return tick <= U64_MAX and holds_each(seats_held(session, tick), roster(session))
+
+
+def ready(session):
+    """How many ticks from pending upward have every seat's frame, 0 to 64. Only
+    what is held matters: not playing, nor Hello, nor an outcome. A step that is
+    out has its tick still pending, and counted."""
+    if is_bad(session):
+        return Answer(BAD_STATE)
+    full = [has_every_frame(session, session.pending + ahead) for ahead in range(WINDOW)]
+    return Answer(DONE, "", (front_run(full),))
+
+
+def front_run(truths):
+    """How many can be taken from the front with no gap among them, said without
+    stopping at the first gap: that is the answer's way, and this is its meaning."""
+    return max(taken for taken in range(len(truths) + 1) if all(truths[:taken]))
 
 
 # --- Deliveries --------------------------------------------------------------
@@ -1008,6 +1033,10 @@ class Circle:
         lines = [] if self.sent is None else ["> " + message_fields(self.sent)]
         return lines + ["= " + session_fields(self.session)]
 
+    def ready(self):
+        """The line that the ready form adds after a record's own."""
+        return ready_line(None if self.session is None else ready(self.session))
+
 
 # What a lent buffer holds before a report. A report is ASCII, so each byte that
 # it writes is another.
@@ -1123,7 +1152,14 @@ def session_fields(session):
     return " ".join(map(str, numbers)) + " " + outcome
 
 
-PLAIN, TRACE, CARRIED = "", "--trace", "--carried"
+def ready_line(answer):
+    """The word none, where there is no session to ask or its record is bad."""
+    if answer is None or answer.number == BAD_STATE:
+        return "ready none"
+    return f"ready {answer.values[0]}"
+
+
+PLAIN, TRACE, CARRIED, READY = "", "--trace", "--carried", "--ready"
 
 
 def run(script, form=PLAIN):
@@ -1133,6 +1169,8 @@ def run(script, form=PLAIN):
         lines = [circle.line(kind, payload)]
         if form == TRACE:
             lines += circle.trace()
+        if form == READY:
+            lines += [circle.ready()]
         yield kind, payload, lines
 
 
@@ -1143,8 +1181,8 @@ def text(script, form=PLAIN):
 
 def main(arguments):
     form = " ".join(arguments)
-    if form not in (PLAIN, TRACE, CARRIED):
-        sys.stderr.write("usage: rules.py [--trace | --carried] < script > lines\n")
+    if form not in (PLAIN, TRACE, CARRIED, READY):
+        sys.stderr.write("usage: rules.py [--trace | --carried | --ready] < script > lines\n")
         return 2
     script = sys.stdin.buffer.read()
     for _, _, lines in run(script, form):

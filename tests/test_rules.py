@@ -72,6 +72,10 @@ class Grown:
     def leave(self):
         return self.call(rules.leave)
 
+    def ready(self):
+        """A question only, so neither session nor answer is kept."""
+        return ticks_ready(self.session)
+
     def pump(self):
         """Seat and message, or 71."""
         number = self.call(rules.pump)
@@ -101,6 +105,13 @@ class Grown:
     def counted(self):
         """The counters that are not 0."""
         return {name: n for name, n in self.session.counters.items() if n}
+
+
+def ticks_ready(session):
+    answer = rules.ready(session)
+    assert answer.number == 0, answer
+    (ticks,) = answer.values
+    return ticks
 
 
 def playing(params):
@@ -444,12 +455,66 @@ class Runner(unittest.TestCase):
         expected = ["commit 0", "deliver 1 1 - 0", f"report {written} 62 0 {written}"]
         self.assertEqual(self.carried(*parted, REPORT), expected)
 
+    def ready(self, *script):
+        """Each record's line with the ready line that follows it."""
+        lines = self.lines(*script, form=rules.READY)
+        return list(zip(lines[::2], lines[1::2], strict=True))
+
+    def test_ready(self):
+        refused, opened = open_record(TWO._replace(width=0)), open_record(TWO)
+        hello = message_record(1, outside.good_hello(TWO, 1))
+        inputs = Inputs(1, 9, 0, 2, 1, b"BC")
+        steps = [
+            (PUMP, "none", "none"),
+            (record(99), "bad", "none"),
+            (refused, "open 13", "none"),
+            (submit_record(b"A"), "none", "none"),
+            (opened, "open 0", "0"),
+            (submit_record(b"A"), "submit 0 0", "0"),
+            (message_record(1, inputs), "deliver 0", "1"),
+            (ADVANCE, "waiting", "1"),
+            (submit_record(b"AA"), "submit 41", "1"),
+            (submit_record(b"A"), "submit 0 1", "2"),
+            (refused, "open 13", "2"),
+            (record(99), "bad", "2"),
+            (hello, "deliver 0", "2"),
+            (ADVANCE, "step 0 1 41 42", "2"),
+            (commit_record(0, 0, 0), "commit 52", "2"),
+            (commit_record(0, 1, 5), "commit 0", "1"),
+            (message_record(1, inputs._replace(first=1, count=1, run=b"x")), "deliver 28", "1"),
+            (PUMP, "send 1 3 0 0", "1"),
+            (LEAVE, "ended 3 - 0", "1"),
+            (ADVANCE, "step 1 1 41 43", "1"),
+            (commit_record(1, 1, 5), "commit 0", "0"),
+            (REPORT, "report 61", "0"),
+            (opened + submit_record(b"A") + message_record(1, inputs), "open 0", "0"),
+        ]
+        found = self.ready(*(one for one, _, _ in steps))
+        expected = [(line, f"ready {told}") for _, line, told in steps]
+        self.assertEqual(found[: len(steps)], expected)
+        self.assertEqual(found[len(steps) :], [("submit 0 0", "ready 0"), ("deliver 0", "ready 1")])
+
+    def test_ready_of_a_cut(self):
+        self.assertEqual(self.ready(b"\1"), [("cut", "ready none")])
+        refused = open_record(TWO._replace(width=0))
+        self.assertEqual(self.ready(refused, b"\1")[-1], ("cut", "ready none"))
+        script = [open_record(TWO), message_record(1, Inputs(1, 9, 0, 1, 1, b"B"))]
+        self.assertEqual(self.ready(*script, ADVANCE[:-1])[-1], ("cut", "ready 0"))
+        script += [submit_record(b"A")]
+        self.assertEqual(self.ready(*script, ADVANCE[:-1])[-1], ("cut", "ready 1"))
+
+    def test_ready_lines_stand_between_the_plain_ones(self):
+        for script in (b"", CASE_R, outside.situations()["desynced"] + REPORT + b"\1"):
+            found = self.ready(script)
+            self.assertEqual([line for line, _ in found], self.lines(script))
+            self.assertEqual([told for _, told in found if told[:6] != "ready "], [])
+
     def test_any_bytes_at_all(self):
         rng = random.Random(1)
         for _ in range(300):
             size = rng.randrange(60)
             script = bytes(rng.choice((0, 0, 0, 1, 2, 8, 9, 255)) for _ in range(size))
-            for form in (rules.TRACE, rules.CARRIED):
+            for form in (rules.TRACE, rules.CARRIED, rules.READY):
                 rules.text(script, form)
 
 
@@ -710,6 +775,270 @@ class Window(unittest.TestCase):
         self.assertFalse(rules.is_playing(grown.session))  # next local 1, delay 1
         grown.submit(b"AA")
         self.assertTrue(rules.is_playing(grown.session))
+
+
+# --- What is ready -----------------------------------------------------------
+
+
+def filled(params, pending=0, ticks=64):
+    """A session with every seat's frame for so many ticks from pending on, and
+    else as new."""
+    session = rules.Session(params)
+    session.pending = pending
+    for tick in range(pending, pending + ticks):
+        session.ring_ticks[tick % 64] = tick
+        session.ring_seats[tick % 64] = rules.of_count(params.count)
+    return session
+
+
+def stopped_count(session):
+    """The count by its other writing: seat by seat and bit by bit, up to the
+    first gap."""
+    for ahead in range(64):
+        tick = session.pending + ahead
+        if tick > U64_MAX or session.ring_ticks[tick & 63] != tick:
+            return ahead
+        for seat in range(session.params.count):
+            if not session.ring_seats[tick & 63] & 1 << seat:
+                return ahead
+    return 64
+
+
+class Ready(unittest.TestCase):
+    # At the last of them the window ends just with tick 2^64-1.
+    PENDINGS = (0, 5, 63, 64, 1000, 2**32 - 3, 2**63 - 20, U64_MAX - 64, U64_MAX - 63)
+
+    def test_every_count(self):
+        for params in (TWO, THREE, EIGHT):
+            for pending in self.PENDINGS:
+                for ticks in range(65):
+                    session = filled(params, pending, ticks)
+                    self.assertEqual(ticks_ready(session), ticks, (params, pending))
+
+    def test_nothing_held(self):
+        for params in (TWO, THREE, EIGHT):
+            self.assertEqual(Grown(params).ready(), 0)
+            self.assertEqual(playing(params).ready(), 0)
+        # A new cell stands at 2^64-1, but with nobody's frame.
+        self.assertEqual(ticks_ready(filled(TWO, U64_MAX, 0)), 0)
+
+    def test_first_tick(self):
+        grown = Grown(THREE)
+        grown.submit(b"LL")
+        grown.inputs(0, 0, b"xy")
+        self.assertEqual(grown.ready(), 0)
+        grown.inputs(2, 0, b"zw")
+        self.assertEqual(grown.ready(), 1)
+
+    def test_each_seat_is_needed(self):
+        for params in (TWO, THREE, EIGHT):
+            for seat in range(params.count):
+                for place in (0, 1, 33, 62, 63):
+                    session = filled(params)
+                    session.ring_seats[place] = rules.without_seat(session.ring_seats[place], seat)
+                    self.assertEqual(ticks_ready(session), place, (params, seat))
+
+    def test_a_gap_anywhere(self):
+        """Full ticks behind it do not count, and a second gap there does not matter."""
+        for pending in self.PENDINGS:
+            for place in range(64):
+                session = filled(THREE, pending)
+                session.ring_seats[(pending + place) % 64] = 0b011
+                self.assertEqual(ticks_ready(session), place)
+                session.ring_seats[(pending + place + 1) % 64] = 0
+                self.assertEqual(ticks_ready(session), min(place, (place + 1) % 64))
+
+    def test_a_gap_appears_and_is_filled(self):
+        grown = playing(THREE)
+        for _ in range(4):
+            grown.submit(b"LL")
+        grown.inputs(0, 0, *[b"xy"] * 6)
+        grown.inputs(2, 3, b"zw", b"zw", b"zw")
+        self.assertEqual(grown.ready(), 0)
+        grown.inputs(2, 0, b"zw", b"zw")
+        self.assertEqual(grown.ready(), 2)
+        grown.inputs(2, 2, b"zw")
+        self.assertEqual(grown.ready(), 6)
+
+    def full(self):
+        """By calls, as far as the window lets one in."""
+        grown = playing(TWO)
+        while grown.submit(b"L") == 0:
+            pass
+        self.assertEqual(grown.answer.number, 42)
+        for first in range(0, 56, 8):
+            grown.inputs(1, first, *[b"B"] * 8)
+        grown.inputs(1, 56, *[b"B"] * 7)
+        return grown
+
+    def test_no_more_than_the_window(self):
+        grown = self.full()
+        self.assertEqual(grown.ready(), 63)
+        self.assertEqual(grown.inputs(1, 63, b"B", b"B"), 0)
+        self.assertEqual(grown.ready(), 64)
+        self.assertEqual([grown.inputs(1, 64, b"B"), grown.submit(b"L")], [27, 42])
+        self.assertEqual(grown.ready(), 64)
+
+    def test_refused_and_repeated_frames_leave_it(self):
+        grown = playing(TWO)
+        grown.inputs(1, 0, b"B")
+        self.assertEqual([grown.inputs(1, 0, b"B"), grown.inputs(1, 0, b"x")], [0, 28])
+        self.assertEqual(grown.ready(), 1)
+
+    def test_steps_and_commits(self):
+        """A step that is out is counted still; its commit takes it away."""
+        grown = self.full()
+        for tick in range(63):
+            self.assertEqual(grown.ready(), 63 - tick)
+            self.assertEqual([grown.advance(), grown.advance()], ["step", "waiting"])
+            self.assertEqual(grown.ready(), 63 - tick)
+            self.assertEqual([grown.commit(tick + 1, 5), grown.commit(tick)], [51, 52])
+            self.assertEqual(grown.ready(), 63 - tick)
+            self.assertEqual(grown.commit(tick, 5), 0)
+        self.assertEqual(grown.ready(), 0)
+        self.assertEqual(grown.advance(), "stalled")
+        self.assertEqual(grown.ready(), 0)
+
+    def test_the_ring_turns(self):
+        grown = self.full()
+        grown.inputs(1, 63, b"B")
+        for tick in range(200):
+            grown.advance()
+            self.assertEqual(grown.commit(tick, 5), 0)
+            self.assertEqual(grown.ready(), 63)
+            grown.inputs(1, tick + 64, b"B")
+            self.assertEqual(grown.ready(), 63)
+            grown.submit(b"L")
+            self.assertEqual(grown.ready(), 64)
+
+    def test_up_to_the_last_tick(self):
+        """A sum that stops at 2^64-1 would count that tick again and again."""
+        self.assertEqual(ticks_ready(filled(TWO, U64_MAX, 1)), 1)
+        for ticks in range(1, 65):
+            session = filled(TWO, 2**64 - ticks, ticks)
+            self.assertEqual(session.ring_ticks[63], U64_MAX)
+            self.assertEqual(ticks_ready(session), ticks)
+
+    def test_above_the_last_tick_is_a_gap(self):
+        """Also where the cells hold just what a sum modulo 2^64 would ask for."""
+        for ticks in range(1, 64):
+            session = filled(THREE, 2**64 - ticks, ticks)
+            for cell in range(64 - ticks):
+                session.ring_ticks[cell], session.ring_seats[cell] = cell, 7
+            self.assertEqual(ticks_ready(session), ticks)
+        session = filled(THREE, 2**64 - 3, 3)
+        session.ring_ticks[:61], session.ring_seats[:61] = range(61), [7] * 61
+        self.assertEqual(session.ring_ticks[61:], [2**64 - 3, 2**64 - 2, 2**64 - 1])
+        self.assertEqual((ticks_ready(session), set(session.ring_seats)), (3, {7}))
+
+    def test_cells_at_other_ticks(self):
+        for pending in (64, 69, 1000):
+            for place in (0, 1, 40, 63):
+                cell = (pending + place) % 64
+                for other in (-128, -64, -1, 1, 64, 128, 2**32, 2**63):
+                    session = filled(THREE, pending)
+                    session.ring_ticks[cell] = max(pending + place + other, 0)
+                    self.assertEqual(ticks_ready(session), place, (pending, other))
+                session.ring_ticks[cell] = U64_MAX
+                self.assertEqual(ticks_ready(session), place)
+        for other in (-64, 64):
+            session = filled(THREE, 64)
+            session.ring_ticks = [tick + other for tick in session.ring_ticks]
+            self.assertEqual(ticks_ready(session), 0)
+
+    def test_strangers_bits(self):
+        session = filled(THREE)
+        session.ring_seats = [0b11111111] * 64
+        self.assertEqual(ticks_ready(session), 64)
+        for seat in range(3):
+            session.ring_seats[20] = 255 - (1 << seat)
+            self.assertEqual(ticks_ready(session), 20)
+        for seat in range(3, 8):
+            session.ring_seats[20] = 255 - (1 << seat)
+            self.assertEqual(ticks_ready(session), 64)
+
+    def test_only_the_frames_matter(self):
+        """Not playing, not a Hello, not an outcome, not what was submitted or stepped."""
+        changes = {
+            "outcome": [Outcome(why, seat, 3) for why in (1, 2, 3) for seat in (0, 200)],
+            "playing": [True],
+            "hello_marks": [0, 7, 255],
+            "playing_marks": [7, 255],
+            "next_local": [1, 9, 64, U64_MAX],
+            "step": [Step(True, tick, due) for tick in (0, 77) for due in (False, True)],
+            "last_stalled": [0],
+            "owed": [Fingerprint(True, 0, 1, 2)],
+            "pump_kind": [rules.KIND_BYE],
+            "input_digest": [0],
+            "ring": [bytearray(b"\xff" * rules.RING_BYTES)],
+        }
+        for ticks in (0, 1, 20, 64):
+            for name, values in changes.items():
+                for value in values:
+                    session = filled(THREE, ticks=ticks)
+                    self.assertNotEqual(getattr(session, name), value, name)
+                    setattr(session, name, value)
+                    self.assertEqual(ticks_ready(session), ticks, (name, value))
+
+    def test_outcomes_leave_it(self):
+        grown = self.full()
+        grown.advance()
+        grown.commit(0, 5)
+        before = grown.session
+        ends = (rules.deliver, 1, Digest(1, KEY, 0, 6, 0)), (rules.deliver, 1, Bye(1, KEY, 9))
+        for why, (function, *arguments) in enumerate((*ends, (rules.leave,)), 1):
+            answer, after = function(before, *arguments)
+            self.assertEqual((answer.number, after.outcome.why), (1, why))
+            self.assertEqual(ticks_ready(after), 62)
+
+    def test_bad_parameters(self):
+        bad = {"count": (0, 1, 9, 255), "local": (3, 255), "width": (0, 17), "delay": (64, 255)}
+        for name, values in (bad | {"period": (0,), "session": (0,)}).items():
+            for value in values:
+                session = filled(THREE)
+                session.params = THREE._replace(**{name: value})
+                session.outcome = Outcome(1, 0, 0)
+                self.assertEqual(rules.ready(session), rules.Answer(20), (name, value))
+
+    def test_good_parameters_at_their_limits(self):
+        good = {"count": (2, 3), "local": (0, 2), "width": (1, 16), "delay": (0, 63)}
+        for name, values in (good | {"period": (1, 255), "session": (1, U64_MAX)}).items():
+            for value in values:
+                session = filled(THREE)
+                session.params = THREE._replace(**{name: value})
+                self.assertEqual(rules.ready(session), rules.Answer(0, "", (64,)), (name, value))
+
+    def test_it_changes_nothing(self):
+        grown = self.full()
+        grown.advance()
+        for session in (grown.session, filled(THREE), filled(EIGHT, 70, 9), rules.Session(TWO)):
+            kept = copy.deepcopy(session)
+            answers = {rules.ready(session) for _ in range(3)}
+            self.assertEqual((session, len(answers)), (kept, 1))
+
+    def test_random_windows(self):
+        """Against the other writing, and a step comes exactly where a tick is ready."""
+        seen = set()
+        for seed in range(700):
+            session = any_window(random.Random(seed))
+            kept = session.copy()
+            ticks = ticks_ready(session)
+            self.assertEqual(ticks, stopped_count(session), seed)
+            self.assertEqual(session, kept)
+            seen.add(ticks)
+            session.playing, session.step, session.outcome = True, Step(), Outcome()
+            stepped = rules.advance(session)[0].word == "step"
+            self.assertEqual(stepped, ticks > 0, seed)
+        self.assertEqual(seen, set(range(65)))
+
+    def test_any_record(self):
+        for seed in range(300):
+            session = any_session(random.Random(seed))
+            answer = rules.ready(session)
+            if rules.is_bad(session):
+                self.assertEqual(answer, rules.Answer(20))
+            else:
+                self.assertEqual(answer.values, (stopped_count(session),))
 
 
 # --- Step and commit ---------------------------------------------------------
@@ -1408,6 +1737,27 @@ def any_session(rng):
     return session
 
 
+def any_window(rng):
+    """Such a record with good parameters, whose window is full up to some tick.
+    Behind it a cell may lack a seat, or be of another turn of the ring; past
+    2^64-1 it is what a sum modulo 2^64 would ask for."""
+    session = any_session(rng)
+    while rules.is_bad(session):
+        session = any_session(rng)
+    wanted = rng.randrange(65)
+    for ahead in range(64):
+        tick, seats = session.pending + ahead, 255
+        if ahead == wanted or ahead > wanted and rng.random() < 0.3:
+            if rng.random() < 0.5:
+                seats -= 1 << rng.randrange(session.params.count)
+            else:
+                tick += rng.choice((64, -64))
+        if rng.random() < 0.5:
+            seats &= rules.of_count(session.params.count)
+        session.ring_ticks[tick % 64], session.ring_seats[tick % 64] = tick % 2**64, seats
+    return session
+
+
 def any_messages(session, rng):
     """`(source, message)` pairs, most past the header."""
     params = session.params
@@ -1442,6 +1792,7 @@ def every_call(session, rng):
     yield rules.leave(session)
     yield rules.pump(session)
     yield rules.report(session, bytearray(rng.choice((0, 600, 2048))))
+    yield rules.ready(session), session
 
 
 REFUSALS_WITHOUT_CHANGE = (*range(11, 21), *range(41, 63))
@@ -1522,6 +1873,21 @@ class Outside(unittest.TestCase):
         every = {(kind, reason) for kind, fitting in fits.items() for reason in fitting}
         self.assertEqual(reasons, every)
 
+    def test_every_ready_count_is_reached(self):
+        for scripts in outside.window_scripts(), outside.play_scripts(1, 25):
+            seen = set()
+            for _, script in scripts:
+                seen |= {lines[-1] for _, _, lines in rules.run(script, rules.READY)}
+            self.assertEqual({f"ready {ticks}" for ticks in range(65)} - seen, set())
+
+    def test_a_gap_at_each_place(self):
+        for place in range(64):
+            lines = rules.text(outside.gap_at(place), rules.READY).splitlines()
+            # With all but one frame, then with that one.
+            self.assertEqual(lines[-3::2], [f"ready {place}", "ready 64"])
+            self.assertIn("submit 42", lines)
+            self.assertIn("deliver 27", lines)
+
     def program(self, path):
         return f"{shlex.quote(sys.executable)} -B {shlex.quote(str(path))}"
 
@@ -1532,7 +1898,7 @@ class Outside(unittest.TestCase):
         scripts = self.some_scripts()
         right = self.program(HERE / "rules.py")
         self.assertEqual(outside.compare(right, scripts), len(scripts))
-        for form in (rules.TRACE, rules.CARRIED):
+        for form in (rules.TRACE, rules.CARRIED, rules.READY):
             self.assertEqual(outside.compare(f"{right} {form}", scripts, form), len(scripts))
 
     def test_differences_are_found(self):
@@ -1561,6 +1927,17 @@ class Outside(unittest.TestCase):
             script = outside.situations()["playing"] + message_record(3, Bye(3, KEY, 0))
             _, _, words = outside.compare(program, [("a stranger", script)], rules.CARRIED)
         self.assertIn("expected deliver 25 3\n  found    deliver 25 4", words)
+
+    def test_a_wrong_count_is_found(self):
+        source = (HERE / "rules.py").read_text()
+        right = "for ahead in range(WINDOW)]"
+        self.assertIn(right, source)
+        with tempfile.TemporaryDirectory() as directory:
+            wrong = pathlib.Path(directory) / "wrong.py"
+            wrong.write_text(source.replace(right, "for ahead in range(WINDOW - 1)]"))
+            program = f"{self.program(wrong)} {rules.READY}"
+            _, _, words = outside.compare(program, outside.window_scripts(), rules.READY)
+        self.assertIn("expected ready 64\n  found    ready 63", words)
 
     def test_first_difference(self):
         script = open_record(TWO) + ADVANCE

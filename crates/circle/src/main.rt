@@ -1,3 +1,5 @@
+use runner::Form;
+
 fn main() {
-    stream::run(false);
+    stream::run(Form::Plain);
 }

@@ -1,10 +1,12 @@
 // Sessions that no run of calls can reach, built by hand, and every call on each of them. Standard input holds a
 // script; it is run on each session from its first record on, from its second on, and so on, so that each record meets
-// each session as it was built. The file stdout beside src/ is what tests/handmade.py, over the rules' second writing,
-// says of the same.
+// each session as it was built. At the end stands how many ticks are ready: of each session as it was built, of such
+// with full windows too, and after each record of the script. The file stdout beside src/ is what tests/handmade.py,
+// over the rules' second writing, says of the same.
 use fingerprint::Cell;
 use fingerprint::Fingerprint;
 use params::SessionParams;
+use runner::Form;
 use session::Emit;
 use session::Head;
 use session::Marks;
@@ -15,7 +17,9 @@ use session::Play;
 use session::Session;
 use session::Standing;
 use session::WorldDigest;
+use shown::Ready;
 use stats::SessionStats;
+use window::Window;
 use wire::Body;
 use wire::ByeBody;
 use wire::Message;
@@ -252,8 +256,133 @@ fn too_many_seats() -> Session {
     Session::open(trio(peer::SEATS + 1)).session
 }
 
+// ---- windows
+
+// Every seat's frame for each of the ticks 0 to 63.
+fn full_window() -> Window {
+    let mut ticks = [0u64; window::SLOTS];
+    let mut cell: usize = 0;
+    while cell < window::SLOTS {
+        ticks[cell] = cell as u64;
+        cell += 1;
+    }
+    let b = Window::new();
+    Window {
+        ticks: ticks,
+        present: [7; window::SLOTS],
+        ..b
+    }
+}
+
+// A new session over it, but for where it is.
+fn over_window(play: Play, w: Window) -> Session {
+    let b = base();
+    let h = b.head;
+    let head = Head { play: play, ..h };
+    Session {
+        head: head,
+        window: w,
+        ..b
+    }
+}
+
+fn all_ready() -> Session {
+    over_window(at_ticks(0, 0), full_window())
+}
+
+// All of the ticks 5 to 68, so that the first of them stand in the last cells.
+fn turned() -> Session {
+    let mut w = full_window();
+    w.ticks[0] = 64;
+    w.ticks[1] = 65;
+    w.ticks[2] = 66;
+    w.ticks[3] = 67;
+    w.ticks[4] = 68;
+    over_window(at_ticks(5, 69), w)
+}
+
+// Seat 2 lacks at tick 40.
+fn gap_ahead() -> Session {
+    let mut w = full_window();
+    w.present[40] = 3;
+    over_window(at_ticks(0, 0), w)
+}
+
+// Seat 2 lacks at tick 0, and every seat that the circle does not have is there.
+fn gap_at_once() -> Session {
+    let mut w = full_window();
+    w.present[0] = 251;
+    over_window(at_ticks(0, 0), w)
+}
+
+// The same at tick 11, behind ticks of which every seat is there, those that the circle does not have too.
+fn strangers_ahead() -> Session {
+    let mut w = full_window();
+    w.present[0] = 255;
+    w.present[1] = 255;
+    w.present[2] = 255;
+    w.present[3] = 255;
+    w.present[4] = 255;
+    w.present[5] = 255;
+    w.present[6] = 255;
+    w.present[7] = 255;
+    w.present[8] = 255;
+    w.present[9] = 255;
+    w.present[10] = 255;
+    w.present[11] = 251;
+    over_window(at_ticks(0, 0), w)
+}
+
+// The cell of tick 3 stands one turn ahead.
+fn one_turn_ahead() -> Session {
+    let mut w = full_window();
+    w.ticks[3] = 67;
+    over_window(at_ticks(0, 0), w)
+}
+
+// The last three ticks that there are; a sum that starts anew would go on at tick 0.
+fn near_the_end() -> Session {
+    let mut w = full_window();
+    w.ticks[61] = MOST - 2;
+    w.ticks[62] = MOST - 1;
+    w.ticks[63] = MOST;
+    over_window(at_ticks(MOST - 2, MOST), w)
+}
+
+fn at_the_end() -> Session {
+    let mut w = full_window();
+    w.ticks[63] = MOST;
+    over_window(at_ticks(MOST, MOST), w)
+}
+
+// Over, with a step out for another tick.
+fn ready_though_over() -> Session {
+    let play = Play {
+        step: Outstanding::Out {
+            tick: 77,
+            due: true,
+        },
+        ..at_ticks(0, 0)
+    };
+    let b = with(play, started());
+    let s = Session {
+        window: full_window(),
+        ..b
+    };
+    over(s, Outcome::Desynced { tick: 0 })
+}
+
+// Parameters that no open takes.
+fn ready_for_none() -> Session {
+    let b = too_many_seats();
+    Session {
+        window: full_window(),
+        ..b
+    }
+}
+
 // The script on a session of its own.
-fn run_on(s: Session, script: &[u8]) {
+fn run_on(s: Session, script: &[u8], form: Form) {
     let head = s.head;
     let window = s.window;
     let mut ring = window.ring;
@@ -274,7 +403,7 @@ fn run_on(s: Session, script: &[u8]) {
         &mut states,
         &mut inputs,
         script,
-        true,
+        form,
     );
 }
 
@@ -283,7 +412,7 @@ fn from_each(s: Session, script: &[u8]) {
     let mut at: usize = 0;
     let mut size = script::record_size(script);
     while size > 0 {
-        run_on(s, &script[at..]);
+        run_on(s, &script[at..], Form::Trace);
         at += size;
         size = script::record_size(&script[at..]);
     }
@@ -315,6 +444,24 @@ fn numbers(s: Session) {
     number(pumped.number());
     let sought = desync::desync_report(s).answer;
     number(sought.number());
+    let ready = shown::ready_ticks(s);
+    number(ready.number());
+}
+
+// How many ticks are ready, of the session as it is and after each record of the script.
+fn ready_on(s: Session, script: &[u8]) {
+    let ready = shown::ready_ticks(s);
+    match ready {
+        Ready::Ticks(n) => {
+            io::write_all(libc::STDOUT_FILENO, b"ready ");
+            io::print_decimal(libc::STDOUT_FILENO, n);
+            io::write_all(libc::STDOUT_FILENO, b"\n");
+        }
+        Ready::BadState => {
+            io::write_all(libc::STDOUT_FILENO, b"ready none\n");
+        }
+    }
+    run_on(s, script, Form::Ready);
 }
 
 fn main() {
@@ -333,4 +480,25 @@ fn main() {
     from_each(counters_full(), script);
     from_each(too_many_seats(), script);
     numbers(too_many_seats());
+    ready_on(at_the_last_tick(), script);
+    ready_on(strangers_in_the_sets(), script);
+    ready_on(plays_though_over(), script);
+    ready_on(steps_elsewhere(), script);
+    ready_on(prints_astray(), script);
+    ready_on(parted_astray(), script);
+    ready_on(pump_past_the_seats(), script);
+    ready_on(pump_says_bye(), script);
+    ready_on(ring_of_strangers(), script);
+    ready_on(counters_full(), script);
+    ready_on(too_many_seats(), script);
+    ready_on(all_ready(), script);
+    ready_on(turned(), script);
+    ready_on(gap_ahead(), script);
+    ready_on(gap_at_once(), script);
+    ready_on(strangers_ahead(), script);
+    ready_on(one_turn_ahead(), script);
+    ready_on(near_the_end(), script);
+    ready_on(at_the_end(), script);
+    ready_on(ready_though_over(), script);
+    ready_on(ready_for_none(), script);
 }

@@ -31,6 +31,8 @@ use Rattle.desync.specs.Json.{reportMost, reportText}
 use Rattle.desync.specs.declared.Sought.{Sought}
 use Rattle.desync.specs.declared.Sought.the-variants as Sought′
 use Rattle.desync.specs.declared.DesyncReport.{DesyncReport}
+use Rattle.shown.specs.declared.Ready.{Ready}
+use Rattle.shown.specs.declared.Ready.the-variants as Ready′
 use Rattle.pump.specs.declared.Outbound.{Outbound}
 use Rattle.pump.specs.declared.Outbound.the-variants as Outbound′
 
@@ -145,3 +147,8 @@ sendLine (Outbound′.Send peer message) =
     join (ascii "send " ∷ decimal peer ∷ ascii " " ∷ bodyText (message .body) ∷ ascii "\n" ∷ [])
 sendLine Outbound′.Nothing = numbered (ascii "send ") 71
 sendLine Outbound′.BadState = numbered (ascii "send ") 20
+
+-- K1: `ready N`, or `ready none` where there is no session to ask
+unfoldable pub readyLine : Ready → List ℕ
+readyLine (Ready′.Ticks n) = join (ascii "ready " ∷ decimal n ∷ ascii "\n" ∷ [])
+readyLine Ready′.BadState = ascii "ready none\n"

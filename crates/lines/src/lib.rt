@@ -1,5 +1,5 @@
-// The lines that the script runner prints: one for each answer, and what the trace form adds. Each goes to the front of
-// a lent buffer, and its length is given back. Nothing here reads a session.
+// The lines that the script runner prints, one for each answer. Each goes to the front of a lent buffer, and its length
+// is given back; what is ready goes behind the line that stands. Nothing here reads a session.
 ghost use Prim.Native.Nat.{_≤_, _*_};
 ghost use mathlib.Core.Path.{_≡_};
 ghost use lib.ListN.{length};
@@ -9,7 +9,7 @@ ghost use Rattle.text.specs.Decimal.{decimal};
 ghost use Rattle.lines.specs.Lines.{Says, numbered, flagText, outcomeText, endedLine, openLine};
 ghost use Rattle.lines.specs.Lines.{acceptedText, submitLine, deliverLine, fieldText, fieldTexts};
 ghost use Rattle.lines.specs.Lines.{stepLine, stalledLine, advanceLine, commitLine, leaveLine};
-ghost use Rattle.lines.specs.Lines.{reportLine, bodyText, sendLine, badLine, noneLine, cutLine};
+ghost use Rattle.lines.specs.Lines.{reportLine, bodyText, sendLine, readyLine, badLine, noneLine, cutLine};
 use deliver::Delivery;
 use desync::DesyncReport;
 use desync::Sought;
@@ -25,6 +25,7 @@ use session::Leave;
 use session::Outcome;
 use session::Step;
 use session::Submit;
+use shown::Ready;
 use wire::Body;
 
 // A word, with its blanks, and a number.
@@ -272,5 +273,19 @@ pub fn advance_line(out: &mut [u8; text::LIMIT], answer: Advance, frames: Frames
         } => stalled_line(out, tick, waiting, pumps),
         Advance::Ended(o) => ended(out, o),
         Advance::BadState => numbered(out, b"advance ", 20),
+    }
+}
+
+// How many ticks are ready, behind the line that stands: `none` where there is no session to ask.
+pub fn ready_line(out: &mut [u8; text::LIMIT], at: usize, answer: Ready) -> usize
+    ensures { λ r. ⌜ page (now (out .exit)) r ≡ put (page (now (out .entry)) at) (readyLine answer) ⌝ }
+    ensures { λ _. ⌜ length (readyLine answer) ≤ 27 ⌝ }
+{
+    match answer {
+        Ready::Ticks(n) => {
+            let end = worded(out, at, b"ready ", n);
+            text::byte(out, end, b'\n')
+        }
+        Ready::BadState => text::piece(out, at, b"ready none\n"),
     }
 }

@@ -2,7 +2,7 @@
 -- And what a record's promise comes to. Assumes nothing.
 use Prim.Native.Nat.{ℕ, suc, _<_, _≤_}
 use mathlib.Core.Path.{_≡_, refl, sym, _∙_}
-use mathlib.Core.Bool.{Bool, true}
+use mathlib.Core.Bool.{true}
 use mathlib.Core.List.{List, [], _∷_, _++_, append-assoc, append-nil}
 use native.Mathlib.Omega.{arith}
 use borrow.Author.Tests.{eq-eqb}
@@ -14,31 +14,32 @@ use Rattle.text.proofs.Writing.{put-append, put-one}
 use Rattle.lines.specs.Lines.{Says}
 use Rattle.session.specs.declared.Session.{Session}
 use Rattle.script.specs.Records.{recordSize}
+use Rattle.runner.specs.declared.Form.{Form}
 use Rattle.runner.specs.Runner.{Prints}
 use Rattle.runner.specs.Script.{Reading, hold, takeIn, reading}
 
-pub reading-append : (traced : Bool) (r : Reading) (xs ys : List ℕ)
-    → reading traced r (xs ++ ys) ≡ reading traced (reading traced r xs) ys
+pub reading-append : (form : Form) (r : Reading) (xs ys : List ℕ)
+    → reading form r (xs ++ ys) ≡ reading form (reading form r xs) ys
 unfolding reading
-reading-append traced r [] ys = refl
-reading-append traced r (x ∷ xs) ys = reading-append traced (takeIn traced r x) xs ys
+reading-append form r [] ys = refl
+reading-append form r (x ∷ xs) ys = reading-append form (takeIn form r x) xs ys
 
 -- bytes that complete no record only add to the one that has begun
-pub waits : (traced : Bool) (s : Session) (said p xs : List ℕ)
+pub waits : (form : Form) (s : Session) (said p xs : List ℕ)
     → ((k : ℕ) → k < length xs → recordSize (p ++ take (suc k) xs) ≡ 0)
-    → reading traced (record { session = s; begun = p; said = said }) xs
+    → reading form (record { session = s; begun = p; said = said }) xs
     ≡ record { session = s; begun = p ++ xs; said = said }
 unfolding reading takeIn hold
-waits traced s said p [] h = rw append-nil
-waits traced s said p (x ∷ xs) h =
+waits form s said p [] h = rw append-nil
+waits form s said p (x ∷ xs) h =
     let none : eqb (recordSize (p ++ (x ∷ []))) 0 ≡ true = eq-eqb _ 0 (h 0 (omega arith)) in
     rw (
       if-true _ _ none,
-      waits traced s said (p ++ (x ∷ [])) xs (λ k l. rw append-assoc (h (suc k) (omega arith))),
+      waits form s said (p ++ (x ∷ [])) xs (λ k l. rw append-assoc (h (suc k) (omega arith))),
       append-assoc,
     )
 
--- a line, and what the trace form shows behind it
+-- a line, and what its form shows behind it
 pub shown-behind : {line before first second : List ℕ} {n m : ℕ} (shown : List ℕ) → Says line before first n
     → page second m ≡ put (page first n) shown → length shown ≤ 400
     → (page second m ≡ put (page before 0) (line ++ shown)) × (length (line ++ shown) ≤ textLimit)

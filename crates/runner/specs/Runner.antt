@@ -2,7 +2,7 @@
 -- Assumes nothing.
 use Prim.Native.Nat.{ℕ, _≤_}
 use mathlib.Core.Path.{_≡_}
-use mathlib.Core.Bool.{Bool, not, _||_}
+use mathlib.Core.Bool.{Bool, true, false}
 use mathlib.Core.List.{List, [], _++_}
 use lib.Dec.{eqb}
 use lib.ListN.{length}
@@ -18,6 +18,7 @@ use Rattle.session.specs.declared.Session.{Session}
 use Rattle.session.specs.declared.WorldDigest.{WorldDigest}
 use Rattle.session.specs.declared.WorldDigest.the-variants.{Absent, Present}
 use Rattle.shown.specs.Wants.{wantsLocal}
+use Rattle.shown.specs.Ahead.{readyTicks}
 use Rattle.deliver.specs.Deliver.{deliver}
 use Rattle.pump.specs.Pump.{pump}
 use Rattle.desync.specs.Asked.{desyncReport}
@@ -27,8 +28,10 @@ use Rattle.script.specs.declared.Asked.{Asked}
 use Rattle.script.specs.declared.Asked.the-variants.{Bad, Open, Of}
 use Rattle.script.specs.Records.{asked, restOf}
 use Rattle.lines.specs.Lines.{Says, openLine, submitLine, deliverLine, advanceLine}
-use Rattle.lines.specs.Lines.{commitLine, leaveLine, reportLine, badLine, noneLine, cutLine}
+use Rattle.lines.specs.Lines.{commitLine, leaveLine, reportLine, readyLine, badLine, noneLine, cutLine}
 use Rattle.trace_text.specs.Trace.{sendLines, stateLine}
+use Rattle.runner.specs.declared.Form.{Form}
+use Rattle.runner.specs.declared.Form.the-variants.{Plain, Trace, Ready}
 
 -- the session that stands is this one, and the line is at the front of the buffer
 pub record Runs (session : Session) (line : List ℕ) (after : Session) (before buffer : List ℕ) (n : ℕ) : Type 0 where
@@ -85,19 +88,31 @@ askedLine s (Of call) bytes traced = if badState (s .head .params) then noneLine
 
 -- ---- one record
 
--- in the trace form, what the session shows, once there is one
-unfoldable pub shownLine : Head → Bool → List ℕ
-shownLine h traced =
-    if not traced || badState (h .params) then []
+-- what the trace form shows of a session, once there is one
+unfoldable pub tracedLine : Head → List ℕ
+tracedLine h =
+    if badState (h .params) then []
     else
     stateLine (h .stats) (h .play .pending) (h .play .«next_local») (isPlaying h) (wantsLocal h) (h .play .digest)
     (h .outcome)
 
+-- behind a record's line stands nothing, what the trace form shows of the session, or how many of its ticks are ready
+unfoldable pub shownLine : Session → Form → List ℕ
+shownLine s Plain = []
+shownLine s Trace = tracedLine (s .head)
+shownLine s Ready = readyLine (readyTicks s)
+
+-- the messages that go out are shown whole in the trace form alone
+abbrev pub isTrace : Form → Bool
+isTrace Plain = false
+isTrace Trace = true
+isTrace Ready = false
+
 unfoldable pub runRecord : Session → List ℕ → Session
 runRecord s r = runAsked s (asked r) (restOf r)
 
-unfoldable pub recordLines : Session → List ℕ → Bool → List ℕ
-recordLines s r traced = askedLine s (asked r) (restOf r) traced ++ shownLine (runRecord s r .head) traced
+unfoldable pub recordLines : Session → List ℕ → Form → List ℕ
+recordLines s r form = askedLine s (asked r) (restOf r) (isTrace form) ++ shownLine (runRecord s r) form
 
 -- the session that stands is this one, and the lines, whole, are at the front of the buffer, the bytes past them as
 -- they were
@@ -107,5 +122,5 @@ pub record Prints (session : Session) (lines : List ℕ) (after : Session) (befo
   pub fits : length lines ≤ textLimit
 
 -- "A record cut by the end, of any kind, prints `cut`": one of which some bytes are there, and not all
-unfoldable pub endLines : Head → ℕ → Bool → List ℕ
-endLines h begun traced = if eqb begun 0 then [] else cutLine ++ shownLine h traced
+unfoldable pub endLines : Session → ℕ → Form → List ℕ
+endLines s begun form = if eqb begun 0 then [] else cutLine ++ shownLine s form

@@ -1,19 +1,43 @@
 // The script runner: one record in, its lines out, and the session that stands after it. The session's arrays and the
 // buffer for the lines are lent. The programs add reading and writing, nothing else.
-ghost use Prim.Native.Nat.{_≤_};
+ghost use Prim.Native.Nat.{ℕ, _≤_};
 ghost use mathlib.Core.Path.{_≡_};
+ghost use mathlib.Core.List.{List};
 ghost use lib.ListN.{length};
 ghost use Rattle.window.specs.Window.{windowOf};
 ghost use Rattle.fingerprint.specs.Cells.{printsOf};
+ghost use Rattle.fingerprint.specs.declared.Fingerprints as Fingerprints′;
 ghost use Rattle.text.specs.Text.{textLimit, page, put};
 ghost use Rattle.session.specs.Session.{fresh, sessionOf};
 ghost use Rattle.runner.specs.Runner.{noParams, worldOf, Runs, runOpen, openLineOf, nextOf, lineOf, runAsked};
-ghost use Rattle.runner.specs.Runner.{askedLine, shownLine, Prints, runRecord, recordLines, endLines};
+ghost use Rattle.runner.specs.Runner.{askedLine, tracedLine, shownLine, isTrace, Prints, runRecord, recordLines};
+ghost use Rattle.runner.specs.Runner.{endLines};
 use params::SessionParams;
 use script::Asked;
 use script::Call;
 use session::Head;
 use session::WorldDigest;
+
+// What a script's lines are: what document 01 says, and behind each of them, if asked for, what the trace form shows or
+// how many ticks are ready.
+pub enum Form {
+    Plain,
+    Trace,
+    Ready,
+}
+
+impl Form {
+    // Whether the messages that go out are shown whole.
+    fn traces(self) -> bool
+        ensures { λ r. ⌜ r ≡ isTrace self ⌝ }
+    {
+        match self {
+            Form::Plain => false,
+            Form::Trace => true,
+            Form::Ready => false,
+        }
+    }
+}
 
 // What a record came to: the head that stands, and how many bytes its lines have.
 pub struct Ran {
@@ -284,14 +308,11 @@ fn run_asked(
     }
 }
 
-// In the trace form, what the session shows, once there is one, behind the line that stands.
-fn show(h: Head, out: &mut [u8; text::LIMIT], at: usize, traced: bool) -> usize
-    ensures { λ r. ⌜ page (now (out .exit)) r ≡ put (page (now (out .entry)) at) (shownLine h traced) ⌝ }
-    ensures { λ _. ⌜ length (shownLine h traced) ≤ 400 ⌝ }
+// What the trace form shows of a session, once there is one, behind the line that stands.
+fn show_traced(h: Head, out: &mut [u8; text::LIMIT], at: usize) -> usize
+    ensures { λ r. ⌜ page (now (out .exit)) r ≡ put (page (now (out .entry)) at) (tracedLine h) ⌝ }
+    ensures { λ _. ⌜ length (tracedLine h) ≤ 400 ⌝ }
 {
-    if !traced {
-        return text::piece(out, at, b"");
-    }
     if h.params.bad_state() {
         return text::piece(out, at, b"");
     }
@@ -309,6 +330,28 @@ fn show(h: Head, out: &mut [u8; text::LIMIT], at: usize, traced: bool) -> usize
     )
 }
 
+// What a form shows behind the line that stands.
+fn show(
+    h: Head,
+    ticks: &[u64; window::SLOTS],
+    present: &[peer::Bits; window::SLOTS],
+    out: &mut [u8; text::LIMIT],
+    at: usize,
+    form: Form,
+) -> usize
+    ensures { λ r. ⌜ ((ring : List ℕ) (p : Fingerprints′.Fingerprints) →
+        page (now (out .exit)) r ≡ put (page (now (out .entry)) at)
+        (shownLine (sessionOf h (windowOf ring (now (ticks .entry)) (now (present .entry))) p) form)) ⌝ }
+    ensures { λ _. ⌜ ((ring : List ℕ) (p : Fingerprints′.Fingerprints) → length
+        (shownLine (sessionOf h (windowOf ring (now (ticks .entry)) (now (present .entry))) p) form) ≤ 400) ⌝ }
+{
+    match form {
+        Form::Plain => text::piece(out, at, b""),
+        Form::Trace => show_traced(h, out, at),
+        Form::Ready => lines::ready_line(out, at, shown::ready_ticks_in(h, ticks, present)),
+    }
+}
+
 // One whole record.
 pub fn run_record(
     h: Head,
@@ -321,7 +364,7 @@ pub fn run_record(
     inputs: &mut [u64; fingerprint::CELLS],
     out: &mut [u8; text::LIMIT],
     record: &[u8],
-    traced: bool,
+    form: Form,
 ) -> Ran
     ensures { λ r. ⌜ Prints
         (runRecord (sessionOf h (windowOf (now (ring .entry)) (now (ticks .entry)) (now (present .entry)))
@@ -329,7 +372,7 @@ pub fn run_record(
         (now («record» .entry)))
         (recordLines (sessionOf h (windowOf (now (ring .entry)) (now (ticks .entry)) (now (present .entry)))
         (printsOf (now (held .entry)) (now (printed .entry)) (now (states .entry)) (now (inputs .entry))))
-        (now («record» .entry)) traced)
+        (now («record» .entry)) form)
         (sessionOf (r .head) (windowOf (now (ring .exit)) (now (ticks .exit)) (now (present .exit)))
         (printsOf (now (held .exit)) (now (printed .exit)) (now (states .exit)) (now (inputs .exit))))
         (now (out .entry)) (now (out .exit)) (r .size) ⌝ }
@@ -346,23 +389,34 @@ pub fn run_record(
         out,
         script::asked_by(record),
         script::rest_of(record),
-        traced,
+        form.traces(),
     );
     let head = ran.head;
     Ran {
         head: head,
-        size: show(head, out, ran.size, traced),
+        size: show(head, ticks, present, out, ran.size, form),
     }
 }
 
 // What a script ends in: a record that has begun and is not whole is cut.
-pub fn end_lines(h: Head, out: &mut [u8; text::LIMIT], begun: usize, traced: bool) -> usize
-    ensures { λ r. ⌜ page (now (out .exit)) r ≡ put (page (now (out .entry)) 0) (endLines h begun traced) ⌝ }
-    ensures { λ _. ⌜ length (endLines h begun traced) ≤ textLimit ⌝ }
+pub fn end_lines(
+    h: Head,
+    ticks: &[u64; window::SLOTS],
+    present: &[peer::Bits; window::SLOTS],
+    out: &mut [u8; text::LIMIT],
+    begun: usize,
+    form: Form,
+) -> usize
+    ensures { λ r. ⌜ ((ring : List ℕ) (p : Fingerprints′.Fingerprints) →
+        page (now (out .exit)) r ≡ put (page (now (out .entry)) 0)
+        (endLines (sessionOf h (windowOf ring (now (ticks .entry)) (now (present .entry))) p) begun form)) ⌝ }
+    ensures { λ _. ⌜ ((ring : List ℕ) (p : Fingerprints′.Fingerprints) → length
+        (endLines (sessionOf h (windowOf ring (now (ticks .entry)) (now (present .entry))) p) begun form)
+        ≤ textLimit) ⌝ }
 {
     if begun == 0 {
         return 0;
     }
     let size = lines::cut_line(out);
-    show(h, out, size, traced)
+    show(h, ticks, present, out, size, form)
 }

@@ -3,7 +3,6 @@
 use Prim.Native.Nat.{ℕ, zero, suc, _+_, _-_, _≤_, _<_, min}
 use mathlib.Core.Path.{_≡_, refl, sym, ap, _∙_}
 use mathlib.Core.Logic.{_≢_}
-use mathlib.Core.Bool.{Bool}
 use mathlib.Core.List.{List, [], _∷_, _++_, append-assoc, append-nil}
 use native.Mathlib.Omega.{arith}
 use borrow.Author.Tests.{eq-eqb, ne-eqb}
@@ -18,6 +17,7 @@ use Rattle.session.specs.Session.{fresh}
 use Rattle.session.specs.declared.Session.{Session}
 use Rattle.script.specs.Records.{longest, recordSize, recordLacks}
 use Rattle.script.proofs.Laws.{whole-before, lacks-some, lacks-part}
+use Rattle.runner.specs.declared.Form.{Form}
 use Rattle.runner.specs.Runner.{noParams, runRecord, recordLines, Prints}
 use Rattle.runner.specs.Script.{Reading, hold, takeIn, reading, from, closing, scriptLines}
 use Rattle.runner.proofs.Laws.{waits, reading-append}
@@ -29,33 +29,33 @@ use Rattle.stream.specs.Stream.{readingOf, Begun, Gathers, Feeds, Reads,
 abbrev behind : List ℕ → Reading → Reading
 behind lines r = readingOf (r .session) (r .begun) (lines ++ r .said)
 
-hold-behind : (traced : Bool) (lines : List ℕ) (s : Session) (bytes said : List ℕ)
-    → hold traced s bytes (lines ++ said) ≡ behind lines (hold traced s bytes said)
+hold-behind : (form : Form) (lines : List ℕ) (s : Session) (bytes said : List ℕ)
+    → hold form s bytes (lines ++ said) ≡ behind lines (hold form s bytes said)
 unfolding hold
-hold-behind traced lines s bytes said =
+hold-behind form lines s bytes said =
     decide (eqb (recordSize bytes) 0)
     (λ part. if-true _ _ part ∙ sym (ap (behind lines) (if-true _ _ part)))
     (λ whole.
     if-false _ _ whole
-    ∙ ap (readingOf (runRecord s bytes) []) (append-assoc lines said (recordLines s bytes traced))
+    ∙ ap (readingOf (runRecord s bytes) []) (append-assoc lines said (recordLines s bytes form))
     ∙ sym (ap (behind lines) (if-false _ _ whole)))
 
 -- and so it reads on
-reading-behind : (traced : Bool) (lines : List ℕ) (r : Reading) (bytes : List ℕ)
-    → reading traced (behind lines r) bytes ≡ behind lines (reading traced r bytes)
+reading-behind : (form : Form) (lines : List ℕ) (r : Reading) (bytes : List ℕ)
+    → reading form (behind lines r) bytes ≡ behind lines (reading form r bytes)
 unfolding reading takeIn
-reading-behind traced lines r [] = refl
-reading-behind traced lines r (b ∷ bytes) =
-    ap (λ (x : Reading). reading traced x bytes)
-    (hold-behind traced lines (r .session) (r .begun ++ (b ∷ [])) (r .said))
-    ∙ reading-behind traced lines (takeIn traced r b) bytes
+reading-behind form lines r [] = refl
+reading-behind form lines r (b ∷ bytes) =
+    ap (λ (x : Reading). reading form x bytes)
+    (hold-behind form lines (r .session) (r .begun ++ (b ∷ [])) (r .said))
+    ∙ reading-behind form lines (takeIn form r b) bytes
 
-module _ (traced : Bool) (s : Session) (begun said : List ℕ) (bytes : List ℕ) where
-  pub reading-apart : reading traced (readingOf s begun said) bytes
-      ≡ behind said (reading traced (readingOf s begun []) bytes)
+module _ (form : Form) (s : Session) (begun said : List ℕ) (bytes : List ℕ) where
+  pub reading-apart : reading form (readingOf s begun said) bytes
+      ≡ behind said (reading form (readingOf s begun []) bytes)
   reading-apart =
-      ap (λ (x : List ℕ). reading traced (readingOf s begun x) bytes) (sym (append-nil said))
-      ∙ reading-behind traced said (readingOf s begun []) bytes
+      ap (λ (x : List ℕ). reading form (readingOf s begun x) bytes) (sym (append-nil said))
+      ∙ reading-behind form said (readingOf s begun []) bytes
 
 -- ---- a record's bytes
 
@@ -96,9 +96,9 @@ gathers-more begun piece bytes used part e all = record {
   part = λ k l. lacks-part begun (take k piece) (rw length-take (omega arith));
 }
 
-module _ (traced : Bool) (s : Session) (said begun piece bytes : List ℕ) where
+module _ (form : Form) (s : Session) (said begun piece bytes : List ℕ) where
   pub reading-gathered : (used : ℕ) → recordSize begun ≡ 0 → Gathers begun piece used bytes
-      → reading traced (readingOf s begun said) (take used piece) ≡ hold traced s bytes said
+      → reading form (readingOf s begun said) (take used piece) ≡ hold form s bytes said
   unfolding reading takeIn hold
   reading-gathered zero e g = rw (g .all, append-nil) (sym (if-true _ _ (eq-eqb _ 0 e)))
   reading-gathered (suc k) e g =
@@ -110,32 +110,32 @@ module _ (traced : Bool) (s : Session) (said begun piece bytes : List ℕ) where
       rw (
         g .all,
         last,
-        reading-append traced _ (take k piece) (getD piece k 0 ∷ []),
-        waits traced s said begun (take k piece) some,
+        reading-append form _ (take k piece) (getD piece k 0 ∷ []),
+        waits form s said begun (take k piece) some,
         append-assoc,
       )
 
-module _ (traced : Bool) (s : Session) (begun piece bytes : List ℕ) (used : ℕ) (e : recordSize begun ≡ 0)
+module _ (form : Form) (s : Session) (begun piece bytes : List ℕ) (used : ℕ) (e : recordSize begun ≡ 0)
     (g : Gathers begun piece used bytes) where
   pub feeds-part : recordSize bytes ≡ 0 → {rest : List ℕ} → bytes ≡ rest
-      → Feeds traced (readingOf s begun []) piece used (readingOf s rest [])
+      → Feeds form (readingOf s begun []) piece used (readingOf s rest [])
   unfolding hold
   feeds-part part same = record {
     within = g .within;
     onward = g .onward;
-    reads = reading-gathered traced s [] begun piece bytes used e g ∙ if-true _ _ (eq-eqb _ 0 part) ∙ rw same;
+    reads = reading-gathered form s [] begun piece bytes used e g ∙ if-true _ _ (eq-eqb _ 0 part) ∙ rw same;
   }
 
   pub feeds-whole : recordSize bytes ≢ 0 → {after : Session} {before line : List ℕ} {n : ℕ}
-      → Prints (runRecord s bytes) (recordLines s bytes traced) after before line n
-      → Feeds traced (readingOf s begun []) piece used (readingOf after [] (take n line))
+      → Prints (runRecord s bytes) (recordLines s bytes form) after before line n
+      → Feeds form (readingOf s begun []) piece used (readingOf after [] (take n line))
   unfolding hold
   feeds-whole whole {after} {before} {line} {n} p =
-      let said = put-said before (recordLines s bytes traced) (p .fits) (p .wrote) in
+      let said = put-said before (recordLines s bytes form) (p .fits) (p .wrote) in
       record {
         within = g .within;
         onward = g .onward;
-        reads = reading-gathered traced s [] begun piece bytes used e g ∙ if-false _ _ (ne-eqb _ 0 whole)
+        reads = reading-gathered form s [] begun piece bytes used e g ∙ if-false _ _ (ne-eqb _ 0 whole)
             ∙ rw (← p .next, ← said .1);
       }
 
@@ -146,42 +146,42 @@ none-begun buffer e = record { room = e; short = omega arith; part = refl }
 
 -- ---- one use after the other
 
-module _ (traced : Bool) (r : Reading) (piece : List ℕ) (s : Session) (begun said : List ℕ) (used : ℕ)
-    (e : reading traced r (take used piece) ≡ readingOf s begun said) where
+module _ (form : Form) (r : Reading) (piece : List ℕ) (s : Session) (begun said : List ℕ) (used : ℕ)
+    (e : reading form r (take used piece) ≡ readingOf s begun said) where
   pub reads-on : (more : ℕ) (t : Session) (rest lines : List ℕ)
-      → Feeds traced (readingOf s begun []) (drop used piece) more (readingOf t rest lines)
-      → reading traced r (take (used + more) piece) ≡ readingOf t rest (said ++ lines)
+      → Feeds form (readingOf s begun []) (drop used piece) more (readingOf t rest lines)
+      → reading form r (take (used + more) piece) ≡ readingOf t rest (said ++ lines)
   reads-on more t rest lines f =
       let next = take more (drop used piece) in
-      ap (reading traced r) (take-add used more piece)
-      ∙ reading-append traced r (take used piece) next
-      ∙ ap (λ (x : Reading). reading traced x next) e
-      ∙ reading-apart traced s begun said next
+      ap (reading form r) (take-add used more piece)
+      ∙ reading-append form r (take used piece) next
+      ∙ ap (λ (x : Reading). reading form x next) e
+      ∙ reading-apart form s begun said next
       ∙ ap (behind said) (f .reads)
 
 -- a piece that is fed as far as `used`: what it came to so far is at the front of `out`
-pub record FedTo (traced : Bool) (r : Reading) (piece : List ℕ) (s : Session) (begun : List ℕ) (have used : ℕ)
+pub record FedTo (form : Form) (r : Reading) (piece : List ℕ) (s : Session) (begun : List ℕ) (have used : ℕ)
     (out : List ℕ) (size : ℕ) : Type 0 where
   pub within : used ≤ length piece
   pub room : size ≤ length out
   pub rest : Begun begun have
   pub unsaid : used ≡ 0 → size ≡ 0
-  pub reads : reading traced r (take used piece) ≡ readingOf s (take have begun) (take size out)
+  pub reads : reading form r (take used piece) ≡ readingOf s (take have begun) (take size out)
 
-module _ (traced : Bool) (piece : List ℕ) where
+module _ (form : Form) (piece : List ℕ) where
   pub fed-none : (s : Session) (begun out : List ℕ) (have : ℕ) → Begun begun have
-      → FedTo traced (readingOf s (take have begun) []) piece s begun have 0 out 0
+      → FedTo form (readingOf s (take have begun) []) piece s begun have 0 out 0
   unfolding reading
   fed-none s begun out have b =
       record { within = omega arith; room = omega arith; rest = b; unsaid = λ e. refl; reads = refl }
 
   pub fed-more : (r : Reading) (s t : Session) (begun after line out next : List ℕ)
-      (have used size more n left end : ℕ) → FedTo traced r piece s begun have used out size
-      → Feeds traced (readingOf s (take have begun) []) (drop used piece) more
+      (have used size more n left end : ℕ) → FedTo form r piece s begun have used out size
+      → Feeds form (readingOf s (take have begun) []) (drop used piece) more
       (readingOf t (take left after) (take n line))
       → Begun after left → n ≤ textLimit → used < length piece → textLimit ≤ length out - size
       → length next ≡ length out → page next end ≡ putWithin (length out) (page out size) (take n line)
-      → FedTo traced r piece t after left (used + more) next end
+      → FedTo form r piece t after left (used + more) next end
   fed-more r s t begun after line out next have used size more n left end f fed b few going free same e =
       let short : length (take n line) ≤ n = rw length-take (omega arith) in
       let put = put-behind out (take n line) size (omega (arith, f .room)) e in
@@ -191,34 +191,34 @@ module _ (traced : Bool) (piece : List ℕ) where
         room = omega (arith, put .0, f .room);
         rest = b;
         unsaid = λ z. absurd (omega (arith, z, fed .onward some));
-        reads = reads-on traced r piece s (take have begun) (take size out) used (f .reads) more t (take left after)
+        reads = reads-on form r piece s (take have begun) (take size out) used (f .reads) more t (take left after)
             (take n line) fed ∙ ap (readingOf t (take left after)) (sym (put .1));
       }
 
 -- a piece that is read as far as `used`, whatever was said
-pub record ReadTo (traced : Bool) (r : Reading) (piece : List ℕ) (s : Session) (begun : List ℕ) (have used : ℕ)
+pub record ReadTo (form : Form) (r : Reading) (piece : List ℕ) (s : Session) (begun : List ℕ) (have used : ℕ)
     : Type 0 where
   pub within : used ≤ length piece
   pub rest : Begun begun have
-  pub next : reading traced r (take used piece) .session ≡ s
-  pub front : reading traced r (take used piece) .begun ≡ take have begun
+  pub next : reading form r (take used piece) .session ≡ s
+  pub front : reading form r (take used piece) .begun ≡ take have begun
 
-module _ (traced : Bool) (piece : List ℕ) where
+module _ (form : Form) (piece : List ℕ) where
   pub read-none : (s : Session) (begun : List ℕ) (have : ℕ) → Begun begun have
-      → ReadTo traced (readingOf s (take have begun) []) piece s begun have 0
+      → ReadTo form (readingOf s (take have begun) []) piece s begun have 0
   unfolding reading
   read-none s begun have b = record { within = omega arith; rest = b; next = refl; front = refl }
 
   pub read-more : (r : Reading) (s t : Session) (begun after lines : List ℕ) (have used more left : ℕ)
-      → ReadTo traced r piece s begun have used
-      → Feeds traced (readingOf s (take have begun) []) (drop used piece) more (readingOf t (take left after) lines)
-      → Begun after left → ReadTo traced r piece t after left (used + more)
+      → ReadTo form r piece s begun have used
+      → Feeds form (readingOf s (take have begun) []) (drop used piece) more (readingOf t (take left after) lines)
+      → Begun after left → ReadTo form r piece t after left (used + more)
   read-more r s t begun after lines have used more left f fed b =
-      let here = reading traced r (take used piece) in
+      let here = reading form r (take used piece) in
       let same : here ≡ readingOf s (take have begun) (here .said) =
       ap (λ (x : Session). readingOf x (here .begun) (here .said)) (f .next)
       ∙ ap (λ (x : List ℕ). readingOf s x (here .said)) (f .front) in
-      let on = reads-on traced r piece s (take have begun) (here .said) used same more t (take left after) lines fed in
+      let on = reads-on form r piece s (take have begun) (here .said) used same more t (take left after) lines fed in
       record {
         within = omega (arith, f .within, rw length-drop at (fed .within));
         rest = b;
@@ -228,27 +228,27 @@ module _ (traced : Bool) (piece : List ℕ) where
 
   -- up to its end
   pub read-all : (r : Reading) (s : Session) (begun : List ℕ) (have used : ℕ)
-      → ReadTo traced r piece s begun have used → length piece ≤ used → Reads traced r piece s (take have begun)
+      → ReadTo form r piece s begun have used → length piece ≤ used → Reads form r piece s (take have begun)
   read-all r s begun have used f l =
       let all = take-all used piece l in record { next = rw all at (f .next); rest = rw all at (f .front) }
 
 -- ---- all pieces
 
-module _ (traced : Bool) where
+module _ (form : Form) where
   from-here : (s : Session) (begun said : List ℕ) (pieces : List (List ℕ))
-      → closing traced (reading traced (readingOf s begun said) (join pieces))
-      ≡ said ++ handedFrom traced s begun pieces
+      → closing form (reading form (readingOf s begun said) (join pieces))
+      ≡ said ++ handedFrom form s begun pieces
   unfolding join reading closing handedFrom
   from-here s begun said [] = refl
   from-here s begun said (p ∷ ps) =
-      let r = reading traced (readingOf s begun []) p in
-      ap (closing traced)
-      (reading-append traced (readingOf s begun said) p (join ps)
-      ∙ ap (λ (x : Reading). reading traced x (join ps)) (reading-apart traced s begun said p))
+      let r = reading form (readingOf s begun []) p in
+      ap (closing form)
+      (reading-append form (readingOf s begun said) p (join ps)
+      ∙ ap (λ (x : Reading). reading form x (join ps)) (reading-apart form s begun said p))
       ∙ from-here (r .session) (r .begun) (said ++ r .said) ps
-      ∙ append-assoc said (r .said) (handedFrom traced (r .session) (r .begun) ps)
+      ∙ append-assoc said (r .said) (handedFrom form (r .session) (r .begun) ps)
 
   -- however the bytes come in pieces, what is handed to be written is, put together, what the script prints
-  pub handed-whole : (pieces : List (List ℕ)) → handed traced pieces ≡ scriptLines traced (join pieces)
+  pub handed-whole : (pieces : List (List ℕ)) → handed form pieces ≡ scriptLines form (join pieces)
   unfolding handed scriptLines from
   handed-whole pieces = sym (from-here (fresh noParams) [] [] pieces)

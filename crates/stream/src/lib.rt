@@ -16,6 +16,7 @@ ghost use Rattle.runner.specs.Script.{reading, from};
 use libc::STDIN_FILENO;
 use libc::STDOUT_FILENO;
 use logic::least;
+use runner::Form;
 use session::Head;
 
 // How much is read at once.
@@ -114,10 +115,10 @@ fn feed_one(
     have: usize,
     line: &mut [u8; text::LIMIT],
     piece: &[u8],
-    traced: bool,
+    form: Form,
 ) -> Fed
     requires { ⌜ Begun (now begun) have ⌝ }
-    ensures { λ r. ⌜ Feeds traced
+    ensures { λ r. ⌜ Feeds form
         (readingOf (sessionOf h (windowOf (now (ring .entry)) (now (ticks .entry)) (now (present .entry)))
         (printsOf (now (held .entry)) (now (printed .entry)) (now (states .entry)) (now (inputs .entry))))
         (take have (now (begun .entry))) [])
@@ -149,7 +150,7 @@ fn feed_one(
         inputs,
         line,
         record,
-        traced,
+        form,
     );
     let head = ran.head;
     Fed {
@@ -175,10 +176,10 @@ fn feed(
     line: &mut [u8; text::LIMIT],
     out: &mut [u8],
     piece: &[u8],
-    traced: bool,
+    form: Form,
 ) -> Fed
     requires { ⌜ Begun (now begun) have × (textLimit ≤ length (now out)) ⌝ }
-    ensures { λ r. ⌜ Feeds traced
+    ensures { λ r. ⌜ Feeds form
         (readingOf (sessionOf h (windowOf (now (ring .entry)) (now (ticks .entry)) (now (present .entry)))
         (printsOf (now (held .entry)) (now (printed .entry)) (now (states .entry)) (now (inputs .entry))))
         (take have (now (begun .entry))) [])
@@ -210,7 +211,7 @@ fn feed(
             at.have,
             line,
             &piece[from..],
-            traced,
+            form,
         );
         let head = one.head;
         let size = text::put_within(out, at.size, front(line, one.size));
@@ -239,10 +240,10 @@ fn run_piece(
     line: &mut [u8; text::LIMIT],
     out: &mut [u8],
     piece: &[u8],
-    traced: bool,
+    form: Form,
 ) -> Waiting
     requires { ⌜ Begun (now begun) have × (textLimit ≤ length (now out)) ⌝ }
-    ensures { λ r. ⌜ (r .going ≡ true → Reads traced
+    ensures { λ r. ⌜ (r .going ≡ true → Reads form
         (readingOf (sessionOf h (windowOf (now (ring .entry)) (now (ticks .entry)) (now (present .entry)))
         (printsOf (now (held .entry)) (now (printed .entry)) (now (states .entry)) (now (inputs .entry))))
         (take have (now (begun .entry))) [])
@@ -273,7 +274,7 @@ fn run_piece(
             line,
             out,
             &piece[used..],
-            traced,
+            form,
         );
         let head = fed.head;
         used += fed.used;
@@ -297,15 +298,15 @@ pub fn run_bytes(
     states: &mut [u64; fingerprint::CELLS],
     inputs: &mut [u64; fingerprint::CELLS],
     bytes: &[u8],
-    traced: bool,
+    form: Form,
 ) -> Waiting
-    ensures { λ r. ⌜ (r .going ≡ true → reading traced
+    ensures { λ r. ⌜ (r .going ≡ true → reading form
         (from (sessionOf h (windowOf (now (ring .entry)) (now (ticks .entry)) (now (present .entry)))
         (printsOf (now (held .entry)) (now (printed .entry)) (now (states .entry)) (now (inputs .entry)))))
         (now (bytes .entry)) .session
         ≡ sessionOf (r .head) (windowOf (now (ring .exit)) (now (ticks .exit)) (now (present .exit)))
         (printsOf (now (held .exit)) (now (printed .exit)) (now (states .exit)) (now (inputs .exit)))) ⌝ }
-    ensures { λ r. ⌜ (r .going ≡ true → length (reading traced
+    ensures { λ r. ⌜ (r .going ≡ true → length (reading form
         (from (sessionOf h (windowOf (now (ring .entry)) (now (ticks .entry)) (now (present .entry)))
         (printsOf (now (held .entry)) (now (printed .entry)) (now (states .entry)) (now (inputs .entry)))))
         (now (bytes .entry)) .begun) ≡ r .have) ⌝ }
@@ -327,7 +328,7 @@ pub fn run_bytes(
         &mut line,
         &mut out,
         bytes,
-        traced,
+        form,
     )
 }
 
@@ -340,14 +341,21 @@ fn read_piece(piece: &mut [u8]) -> usize
 }
 
 // What a script ends in.
-fn finish(h: Head, have: usize, line: &mut [u8; text::LIMIT], traced: bool) {
-    let n = runner::end_lines(h, line, have, traced);
+fn finish(
+    h: Head,
+    ticks: &[u64; window::SLOTS],
+    present: &[peer::Bits; window::SLOTS],
+    have: usize,
+    line: &mut [u8; text::LIMIT],
+    form: Form,
+) {
+    let n = runner::end_lines(h, ticks, present, line, have, form);
     say(front(line, n));
 }
 
 // A proved loop has to end, and nothing says that the input does: the turns are counted down from a number that no run
 // uses up.
-pub fn run(traced: bool) {
+pub fn run(form: Form) {
     let mut ring = [0u8; window::RING];
     let mut ticks = [0u64; window::SLOTS];
     let mut present = [0; window::SLOTS];
@@ -391,11 +399,11 @@ pub fn run(traced: bool) {
             &mut line,
             &mut out,
             front(&piece, n),
-            traced,
+            form,
         );
         going = n > 0 && t.going;
         turns -= 1;
     }
     let head = t.head;
-    finish(head, t.have, &mut line, traced);
+    finish(head, &ticks, &present, t.have, &mut line, form);
 }

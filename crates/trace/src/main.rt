@@ -1,3 +1,5 @@
+use runner::Form;
+
 fn main() {
-    stream::run(true);
+    stream::run(Form::Trace);
 }

@@ -1,7 +1,7 @@
 -- `runner::run_record` meets its contract. Assumes nothing.
 use mathlib.Core.Path.{refl}
 use borrow.Author.Needs.{needs}
-use Rattle.runner.specs.Runner.{shownLine, runRecord, recordLines}
+use Rattle.runner.specs.Runner.{runRecord, recordLines}
 use Rattle.runner.proofs.Laws.{shown-behind}
 use Rattle.runner.proofs.run_record.Statement.{statement}
 use Rattle.runner.proofs.run_record.Tie as tie
@@ -9,13 +9,15 @@ use Rattle.runner.proofs.run_record.Tie as tie
 returns : tie.Need-returns
 unfolding runRecord recordLines
 returns c =
-    let asked = c .before .before .before in
-    let rest = asked .before in
-    let start = rest .before .before .before .before .before .before .before .before .before .before .before in
-    let ran = rw (rest .before .asked-by .ensures, rest .rest-of .ensures) at (asked .run-asked .ensures) in
-    let shown = shownLine (asked .run-asked .result .head) (start .args .traced) in
-    let all = shown-behind shown (ran .says) (c .show .ensures .0) (c .show .ensures .1) in
+    let asked = c .before .before .before .before .before in
+    let traces = asked .before in
+    let rest = traces .before in
+    let ran = rw (rest .before .asked-by .ensures, rest .rest-of .ensures, traces .traces .ensures)
+    at (asked .run-asked .ensures) in
+    let shown = c .show .ensures in
+    let all = shown-behind _ (ran .says) (shown .0 _ _) (shown .1 _ _) in
     rw (← ran .next) (record { next = refl; wrote = all .0; fits = all .1 })
 
 pub run-record-spec : {M : Type 1} → statement M
-run-record-spec = tie.close (tie.spec (search needs) (search needs) (search needs) (search needs) returns)
+run-record-spec =
+    tie.close (tie.spec (search needs) (search needs) (search needs) (search needs) (search needs) returns)

@@ -19,9 +19,9 @@ use Rattle.stream.proofs.feed.Statement.{statement}
 use Rattle.stream.proofs.feed.Tie as tie
 
 abbrev Inv-loop : tie.InvT-loop
-Inv-loop ring₀ ticks₀ present₀ held₀ printed₀ states₀ inputs₀ begun₀ have line₀ out₀ piece traced at₀
+Inv-loop ring₀ ticks₀ present₀ held₀ printed₀ states₀ inputs₀ begun₀ have line₀ out₀ piece form at₀
     ring ticks present held printed states inputs begun line out at =
-    FedTo traced
+    FedTo form
     (readingOf (sessionOf (at₀ .head) (windowOf ring₀ ticks₀ present₀) (printsOf held₀ printed₀ states₀ inputs₀))
     (take have begun₀) [])
     piece (sessionOf (at .head) (windowOf ring ticks present) (printsOf held printed states inputs))
@@ -29,7 +29,7 @@ Inv-loop ring₀ ticks₀ present₀ held₀ printed₀ states₀ inputs₀ begu
     × (length out ≡ length out₀)
 
 abbrev μ-loop : tie.MeasureT-loop
-μ-loop ring₀ ticks₀ present₀ held₀ printed₀ states₀ inputs₀ begun₀ have line₀ out₀ piece traced at₀
+μ-loop ring₀ ticks₀ present₀ held₀ printed₀ states₀ inputs₀ begun₀ have line₀ out₀ piece form at₀
     ring ticks present held printed states inputs begun line out at = length piece - at .used
 
 -- where the call starts, from where a turn begins
@@ -47,7 +47,7 @@ goes c = c .before .before .before .before .before .before .before .before .befo
 loop-holds : tie.Need-loop-holds Inv-loop μ-loop
 loop-holds c =
     let begins = c .before .before .before in
-    (fed-none (begins .args .traced) _ _ _ _ _ (begins .pre .0), refl)
+    (fed-none (begins .args .form) _ _ _ _ _ (begins .pre .0), refl)
 
 sub-if2 : tie.Need-sub-if2 Inv-loop μ-loop
 sub-if2 c = c .before .before .before .loop .inv .0 .room
@@ -115,7 +115,7 @@ loop-again c =
     let at = turn going in
     let fed-one = one .feed-one .ensures in
     let said = rw (cut .front .ensures) at (put .put-within .ensures) in (
-      fed-more (start at .args .traced) _ _ _ _ _ _ _ _ _ _ _ _ _ _ _ _ (at .loop .inv .0)
+      fed-more (start at .args .form) _ _ _ _ _ _ _ _ _ _ _ _ _ _ _ _ (at .loop .inv .0)
           (rw (from-on _ _) at (fed-one .0)) (fed-one .1 .0) (fed-one .1 .1) (going .before .before .if1 .taken)
           (leb-true _ _ (going .if2 .taken)) (kept put) said,
       kept put ∙ at .loop .inv .1,

@@ -23,7 +23,7 @@ returns c =
     let g = gathered .gather .ensures in
     let part = rw (found .bytes-of .ensures) at (sym (sized .record-size .ensures .0) ∙ c .if1 .taken) in
     let begun = g .1 part in
-    (feeds-part (start .args .traced) _ _ _ _ _ (start .pre .part) (g .0) part (rw (begun .1)), (begun .0, omega arith))
+    (feeds-part (start .args .form) _ _ _ _ _ (start .pre .part) (g .0) part (rw (begun .1)), (begun .0, omega arith))
 
 -- the buffer keeps its length
 kept : (c : tie.After-gather) →
@@ -48,7 +48,7 @@ returns-2 c =
     let some : recordSize (bytesOf (g .last .0) (now (start .args .piece)) (g .result)) ≢ 0 =
     λ e. whole .if1 .left (sized .record-size .ensures .0 ∙ rw bytes e) in
     let size = put-said _ _ (ran .fits) (ran .wrote) .0 in (
-      feeds-whole (start .args .traced) _ _ _ _ _ (start .pre .part) (g .ensures .0) some ran,
+      feeds-whole (start .args .form) _ _ _ _ _ (start .pre .part) (g .ensures .0) some ran,
       (none-begun _ (kept gathered ∙ start .pre .room), omega (arith, size, ran .fits)),
     )
 

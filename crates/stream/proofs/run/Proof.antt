@@ -9,12 +9,12 @@ use Rattle.stream.proofs.run.Statement.{statement}
 use Rattle.stream.proofs.run.Tie as tie
 
 abbrev Inv-loop : tie.InvT-loop
-Inv-loop traced ring₀ ticks₀ present₀ held₀ printed₀ states₀ inputs₀ begun₀ line₀ out₀ piece₀ t₀ going₀ turns₀
+Inv-loop form ring₀ ticks₀ present₀ held₀ printed₀ states₀ inputs₀ begun₀ line₀ out₀ piece₀ t₀ going₀ turns₀
     ring ticks present held printed states inputs begun line out piece t going turns =
     Begun begun (t .have) × (length out ≡ length out₀) × (length piece ≡ length piece₀)
 
 abbrev μ-loop : tie.MeasureT-loop
-μ-loop traced ring₀ ticks₀ present₀ held₀ printed₀ states₀ inputs₀ begun₀ line₀ out₀ piece₀ t₀ going₀ turns₀
+μ-loop form ring₀ ticks₀ present₀ held₀ printed₀ states₀ inputs₀ begun₀ line₀ out₀ piece₀ t₀ going₀ turns₀
     ring ticks present held printed states inputs begun line out piece t going turns = turns
 
 -- where a piece was read, from where it is run

@@ -17,9 +17,9 @@ use Rattle.stream.proofs.run_piece.Statement.{statement}
 use Rattle.stream.proofs.run_piece.Tie as tie
 
 abbrev Inv-loop : tie.InvT-loop
-Inv-loop ring₀ ticks₀ present₀ held₀ printed₀ states₀ inputs₀ begun₀ have line₀ out₀ piece traced at₀ used₀
+Inv-loop ring₀ ticks₀ present₀ held₀ printed₀ states₀ inputs₀ begun₀ have line₀ out₀ piece form at₀ used₀
     ring ticks present held printed states inputs begun line out at used =
-    ReadTo traced
+    ReadTo form
     (readingOf (sessionOf (at₀ .head) (windowOf ring₀ ticks₀ present₀) (printsOf held₀ printed₀ states₀ inputs₀))
     (take have begun₀) [])
     piece (sessionOf (at .head) (windowOf ring ticks present) (printsOf held printed states inputs))
@@ -27,7 +27,7 @@ Inv-loop ring₀ ticks₀ present₀ held₀ printed₀ states₀ inputs₀ begu
     × (length out ≡ length out₀)
 
 abbrev μ-loop : tie.MeasureT-loop
-μ-loop ring₀ ticks₀ present₀ held₀ printed₀ states₀ inputs₀ begun₀ have line₀ out₀ piece traced at₀ used₀
+μ-loop ring₀ ticks₀ present₀ held₀ printed₀ states₀ inputs₀ begun₀ have line₀ out₀ piece form at₀ used₀
     ring ticks present held printed states inputs begun line out at used = length piece - used
 
 -- where the call starts, from where a turn begins
@@ -41,7 +41,7 @@ goes c = c .before .before .before .before .before .before .before .before .befo
 loop-holds : tie.Need-loop-holds Inv-loop μ-loop
 loop-holds c =
     let begins = c .before .before .before in
-    (read-none (begins .args .traced) _ _ _ _ (begins .pre .0), refl)
+    (read-none (begins .args .form) _ _ _ _ (begins .pre .0), refl)
 
 sub-feed : tie.Need-sub-feed Inv-loop μ-loop
 sub-feed c =
@@ -97,7 +97,7 @@ loop-again c =
     let done = c .before .before .before .before .before .before .before .before .before in
     let at = goes done .before in
     let fed-now = done .feed .ensures in (
-      read-more (start at .args .traced) _ _ _ _ _ _ _ _ _ _ _ (at .loop .inv .0) (rw (from-on _ _) at (fed-now .0))
+      read-more (start at .args .form) _ _ _ _ _ _ _ _ _ _ _ (at .loop .inv .0) (rw (from-on _ _) at (fed-now .0))
           (fed-now .1 .0),
       kept done ∙ at .loop .inv .1,
     )
@@ -123,7 +123,7 @@ returns-2 : tie.Need-returns-2 Inv-loop μ-loop
 returns-2 c =
     let at = c .before in
     let f = at .loop .inv .0 in
-    (λ going. read-all (start at .args .traced) _ _ _ _ _ _ f (c .loop-test .left), f .rest)
+    (λ going. read-all (start at .args .form) _ _ _ _ _ _ f (c .loop-test .left), f .rest)
 
 pub run-piece-spec : {M : Type 1} → statement M
 run-piece-spec =

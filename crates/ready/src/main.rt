@@ -1,0 +1,5 @@
+use runner::Form;
+
+fn main() {
+    stream::run(Form::Ready);
+}
