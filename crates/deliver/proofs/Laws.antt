@@ -136,10 +136,14 @@ calm {s} t a n c = record {
   keeps = c .keeps;
 }
 
--- ending and starting a session leave the counters
+-- ending and starting a session leave all that
 ended-calm : (s t : Session) (o : Outcome) → Calm s t → Calm s (withHead t (ended (t .head) o))
 unfolding ended
-ended-calm s t o c = record { stats = c .stats; window = c .window; keeps = record { params = c .keeps .params; play = c .keeps .play } }
+ended-calm s t o c = record {
+  stats = c .stats;
+  window = c .window;
+  keeps = record { params = c .keeps .params; play = c .keeps .play };
+}
 
 started-calm : (s : Session) (h : Head) → Calm s (withHead s h) → Calm s (withHead s (started h))
 unfolding started

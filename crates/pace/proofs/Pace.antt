@@ -1,8 +1,9 @@
 -- What a player may count on that asks how many ticks are ready: none are exactly where `advance` would stall; to play
--- one leaves one fewer; a delivery never lowers it; there are at most 64, and 64 is reached. Assumes nothing.
+-- one leaves one fewer; a delivery never lowers it; there are at most 64. That 64 is reached is an example of `shown`.
+-- Assumes nothing.
 use Prim.Native.Nat.{ℕ, suc, _+_, _≤_, _<_}
 use mathlib.Core.Path.{_≡_, refl, sym, ap, subst, _∙_}
-use mathlib.Core.Bool.{Bool, true, false, not, _&&_, true≢false}
+use mathlib.Core.Bool.{Bool, true, false, not, and-false, true≢false}
 use mathlib.Core.List.{List}
 use native.Mathlib.Omega.{arith}
 use lib.Dec.{eqb, leb}
@@ -153,8 +154,8 @@ record Commits (s : Session) (r : Committed) : Type 0 where
 judge-left : (s : Session) (tick : ℕ) → Left s (judge s tick) (s .head .play .pending)
 unfolding judge ended
 judge-left s tick =
-    byTest (λ (t : Session). Left s t (s .head .play .pending)) (λ _. record { params = refl; window = refl; at = refl })
-    (λ _. record { params = refl; window = refl; at = refl })
+    byTest (λ (t : Session). Left s t (s .head .play .pending))
+    (λ _. record { params = refl; window = refl; at = refl }) (λ _. record { params = refl; window = refl; at = refl })
 
 digest-left : (s : Session) (tick : ℕ) (given : WorldDigest) → Left s (keepDigest s tick given) (s .head .play .pending)
 unfolding keepDigest
@@ -174,7 +175,8 @@ commits s tick given =
 none-held : (h : Head) → Sound (h .params) → everySeat h 0 ≡ false
 unfolding everySeat isSubset
 none-held h ok =
-    let first = has-roster (h .params) 0 (omega arith) ∙ lt-ltb 0 (h .params .count) (omega (arith, ok .count .least)) in
+    let first =
+    has-roster (h .params) 0 (omega arith) ∙ lt-ltb 0 (h .params .count) (omega (arith, ok .count .least)) in
     every-not seats _ 0 (omega arith) (rw (first, has-zero 0))
 
 -- a tick and the one 64 beyond it share a cell, so not both are ready
@@ -188,12 +190,8 @@ beyond h w tick ok all =
     (λ here.
     let gone : eqb (getD (w .ticks) (slotOf (tick + window)) 0) (tick + window) ≡ false =
     rw (cell, here) (ne-eqb tick (tick + window) (λ q. omega arith)) in
-    rw (if-false _ _ gone, none) (and-no (leb (tick + window) most)))
+    rw (if-false _ _ gone, none) (and-false (leb (tick + window) most)))
     (λ other. absurd (true≢false (sym all ∙ ap (everySeat h) (if-false _ _ (ne-eqb _ _ other)) ∙ none)))
-  where
-    and-no : (b : Bool) → b && false ≡ false
-    and-no true = refl
-    and-no false = refl
 
 -- it goes by the parameters and the window
 ready-same : (h k : Head) (w : Window) (tick : ℕ) → k .params ≡ h .params → isReady k w tick ≡ isReady h w tick

@@ -17,7 +17,8 @@ use Rattle.shown.specs.Ahead.{isReady, readiness, frontRun, ahead, ready
 
 -- seat 0 of so many
 abbrev seated : ℕ → SessionParams
-seated n = record { count = n; local = 0; width = 1; delay = 0; period = 2; seed = 0; content = 0; rules = 0; session = 9 }
+seated n =
+    record { count = n; local = 0; width = 1; delay = 0; period = 2; seed = 0; content = 0; rules = 0; session = 9 }
 
 -- with this tick pending
 abbrev at : ℕ → Head → Head

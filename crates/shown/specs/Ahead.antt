@@ -1,5 +1,5 @@
--- Document 02, K1: how many ticks from pending upward have every seat's frame, 0 to 64, an outstanding step included. The
--- meaning looks at all 64 ticks and takes the full run at the front. A tick above 2^64-1 is a gap. 20 comes first.
+-- Document 02, K1: how many ticks from pending upward have every seat's frame, 0 to 64, an outstanding step included.
+-- The meaning looks at all 64 ticks and takes the full run at the front. A tick above 2^64-1 is a gap. 20 comes first.
 -- Assumes nothing.
 use Prim.Native.Nat.{ℕ, suc, _+_}
 use mathlib.Core.Bool.{Bool, true, false, _&&_}
@@ -32,9 +32,11 @@ frontRun [] = 0
 frontRun (true ∷ rest) = suc (frontRun rest)
 frontRun (false ∷ rest) = 0
 
+-- the full run at the front of the 64
 unfoldable pub ahead : Head → Window → ℕ
 ahead h w = frontRun (readiness h w)
 
+-- 20 first, for a record whose parameters fail
 unfoldable pub readyTicks : Session → Ready
 readyTicks s = if badState (s .head .params) then BadState else Ticks (ahead (s .head) (s .window))
 
