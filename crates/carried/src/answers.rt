@@ -10,7 +10,7 @@ use wire::{Body, HelloBody, Message, WireError};
 
 // What a report in a lent buffer came to, and how many bytes of the buffer are no longer what they were. A report's
 // line has several.
-#[derive(Drop)]
+#[derive(Clone, Copy)]
 pub(crate) struct Tried {
     pub answer: WriteReport,
     pub changed: u64,

@@ -24,7 +24,7 @@ struct Answered {
 
 // A record at the front of the buffer. `size` is 0 at the end of the input, and where the record is cut it is not
 // whole.
-#[derive(Drop)]
+#[derive(Clone, Copy)]
 struct Read {
     pub size: usize,
     pub whole: bool,

@@ -18,7 +18,7 @@ use window::{Note, Window};
 use wire::{Body, DigestBody, Form, HelloBody, InputsBody, Message, WireError};
 
 // Why a message was refused, with what was seen.
-#[derive(Drop)]
+#[derive(Clone, Copy)]
 pub enum Refusal {
     Malformed(WireError),
     WrongSession { saw: u64 },
@@ -33,7 +33,7 @@ pub enum Refusal {
     NotSessionTraffic { kind: u8 },
 }
 
-#[derive(Drop)]
+#[derive(Clone, Copy)]
 pub enum Delivery {
     Accepted,
     Ended(Outcome),
@@ -47,7 +47,7 @@ pub struct Delivered {
     pub answer: Delivery,
 }
 
-#[derive(Drop)]
+#[derive(Clone, Copy)]
 pub struct HeadDelivered {
     pub head: Head,
     pub answer: Delivery,

@@ -27,7 +27,7 @@ const SEATS: usize = peer::SEATS as usize;
 
 // Everything known of a divergence at the tick where it was caught. A seat's state and input are there where the set
 // beside them has the seat.
-#[derive(Drop)]
+#[derive(Clone, Copy)]
 pub struct DesyncReport {
     pub tick: u64,
     pub local: u8,
@@ -48,7 +48,7 @@ pub struct DesyncReport {
 }
 
 // What each seat reported for a tick.
-#[derive(Drop)]
+#[derive(Clone, Copy)]
 struct Heard {
     pub there: peer::Bits,
     pub states: [u64; SEATS],
@@ -56,7 +56,7 @@ struct Heard {
 }
 
 // Whether a session has a report to give.
-#[derive(Drop)]
+#[derive(Clone, Copy)]
 pub enum Sought {
     BadState,
     NoDesync,
@@ -64,13 +64,13 @@ pub enum Sought {
 }
 
 // An enum holds no array, so the report stands beside the answer; it is blank where there is none.
-#[derive(Drop)]
+#[derive(Clone, Copy)]
 pub struct Reported {
     pub answer: Sought,
     pub report: DesyncReport,
 }
 
-#[derive(Drop)]
+#[derive(Clone, Copy)]
 pub enum WriteReport {
     BadState,
     NoDesync,

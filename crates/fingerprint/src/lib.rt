@@ -8,21 +8,21 @@ ghost use Rattle.fingerprint.specs.LastAgreed.{offer, higher, last_agreed};
 
 use peer::PeerSet;
 
-#[derive(Drop)]
+#[derive(Clone, Copy)]
 pub struct Fingerprint {
     pub tick: u64,
     pub state: u64,
     pub input: u64,
 }
 
-#[derive(Drop)]
+#[derive(Clone, Copy)]
 pub enum Cell {
     Empty,
     Holds(Fingerprint),
 }
 
 // What an arriving print is to its sender's cell.
-#[derive(Drop)]
+#[derive(Clone, Copy)]
 pub enum Arrival {
     New,
     Repeated,
@@ -30,7 +30,7 @@ pub enum Arrival {
 }
 
 // The last tick agreed on before another, if there is one.
-#[derive(Drop)]
+#[derive(Clone, Copy)]
 pub enum LastAgreed {
     Never,
     At(u64),

@@ -1,4 +1,6 @@
 // The state hash, FNV-1a at 64 bits. It tells whether two players hold the same thing; it keeps no secret.
+#![tactic(auto)]
+
 ghost use Rattle.std.specs.Prelude.{◌≡◌, ◌*◌, ◌%◌, ◌^◌};
 ghost use Rattle.hash.specs.Fnv.{start, prime, step, fnv, le_bytes};
 
@@ -35,7 +37,7 @@ fn times_prime(h: u64) -> u64
 
 // A fingerprint in progress. Absorbing hands the next one back, so the order of what goes in is written out as an
 // expression.
-#[derive(Drop)]
+#[derive(Clone, Copy)]
 pub struct StateHash {
     pub value: u64,
 }

@@ -1,5 +1,7 @@
 // Sums that stop at their ends, a test of a range, the lesser of two, and a byte in a wider type: the small arithmetic
 // that every layer uses.
+#![tactic(auto)]
+
 ghost use Rattle.std.specs.Prelude.{◌≡◌, ◌-◌, min};
 ghost use Rattle.logic.specs.Saturating.{raised, sum};
 ghost use Rattle.logic.specs.Range.{outside};

@@ -11,7 +11,7 @@ use stats::SessionStats;
 use std::num::wrapping_add_u64;
 
 // `size` bytes of the line stand in the buffer.
-#[derive(Drop)]
+#[derive(Clone, Copy)]
 pub(crate) struct Told {
     pub value: u64,
     pub size: usize,

@@ -20,7 +20,7 @@ pub const INPUT_WINDOW: u32 = peer::WINDOW as u32;
 // What the agreement starts with, so that players of another version of it disagree by number.
 const VERSION: u32 = 3;
 
-#[derive(Drop)]
+#[derive(Clone, Copy)]
 pub struct SessionParams {
     pub count: u8,
     pub local: u8,
@@ -34,7 +34,7 @@ pub struct SessionParams {
 }
 
 // Whether parameters can start a session, or the first check that fails, with what it saw.
-#[derive(Drop)]
+#[derive(Clone, Copy)]
 pub enum Validity {
     Valid,
     PeerCount { saw: u8, floor: u8, ceiling: u8 },

@@ -1,4 +1,6 @@
 // Who sits where, and where a tick is kept: sets of seats, a bit for each, and the cells of the two rings.
+#![tactic(auto)]
+
 ghost use Rattle.std.specs.Prelude.{◌≡◌};
 ghost use Rattle.peer.specs.Cells.{slot_of, digest_slot_of};
 ghost use Rattle.peer.specs.Seats.{seats, has, first_seats, adding, removing, less, is_empty, is_subset, seat_count};
@@ -10,7 +12,7 @@ pub type Bits = u8;
 
 const ONE: Bits = 1;
 
-#[derive(Drop)]
+#[derive(Clone, Copy)]
 pub struct PeerSet(pub Bits);
 
 impl PeerSet {

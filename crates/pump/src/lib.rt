@@ -26,7 +26,7 @@ use wire::{Body, ByeBody, DigestBody, HelloBody, InputsBody, Message};
 // The longest run: as many frames as an Inputs carries, each as wide as can be.
 pub const RUN: usize = wire::REDUNDANCY as usize * params::MAX_WIDTH as usize;
 
-#[derive(Drop)]
+#[derive(Clone, Copy)]
 pub enum Outbound {
     Send { peer: u8, message: Message },
     Nothing,
@@ -43,7 +43,7 @@ pub struct Pumped {
 }
 
 // The same of the call in place.
-#[derive(Drop)]
+#[derive(Clone, Copy)]
 pub struct HeadPumped {
     pub head: Head,
     pub answer: Outbound,
@@ -51,21 +51,21 @@ pub struct HeadPumped {
 }
 
 // The next seat to send to.
-#[derive(Drop)]
+#[derive(Clone, Copy)]
 pub enum Target {
     Nobody,
     Seat(u8),
 }
 
 // What a kind says at this moment, to whichever seat.
-#[derive(Drop)]
+#[derive(Clone, Copy)]
 pub enum Saying {
     Silent,
     Says(Body),
 }
 
 // The two together.
-#[derive(Drop)]
+#[derive(Clone, Copy)]
 pub enum Say {
     No,
     To { peer: u8, body: Body },

@@ -14,7 +14,7 @@ pub const ROWS: usize = peer::SEATS as usize;
 
 // The rows in a record, so that they can stand beside a step. The two functions below are the only ones that touch the
 // rows inside it.
-#[derive(Drop)]
+#[derive(Clone, Copy)]
 pub struct Frames {
     pub rows: [[u8; 16]; ROWS],
 }

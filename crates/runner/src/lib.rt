@@ -16,7 +16,7 @@ use session::{Head, WorldDigest};
 
 // What a script's lines are: what document 01 says, and behind each of them, if asked for, what the trace form shows or
 // how many ticks are ready.
-#[derive(Drop)]
+#[derive(Clone, Copy)]
 pub enum Form {
     Plain,
     Trace,
@@ -37,7 +37,7 @@ impl Form {
 }
 
 // What a record came to: the head that stands, and how many bytes its lines have.
-#[derive(Drop)]
+#[derive(Clone, Copy)]
 pub struct Ran {
     pub head: Head,
     pub size: usize,

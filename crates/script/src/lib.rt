@@ -14,7 +14,7 @@ pub const HEADER: usize = 4;
 pub const LONGEST: usize = 65539;
 
 // What is asked of the session that stands.
-#[derive(Drop)]
+#[derive(Clone, Copy)]
 pub enum Call {
     Submit,
     Deliver { source: u8, message: Message },
@@ -25,7 +25,7 @@ pub enum Call {
     Report,
 }
 
-#[derive(Drop)]
+#[derive(Clone, Copy)]
 pub enum Asked {
     Bad,
     Open(SessionParams),

@@ -22,28 +22,28 @@ use stats::SessionStats;
 use window::Window;
 
 // Why a session ended.
-#[derive(Drop)]
+#[derive(Clone, Copy)]
 pub enum Outcome {
     Desynced { tick: u64 },
     PeerLeft { peer: u8, tick: u64 },
     LeftLocally { tick: u64 },
 }
 
-#[derive(Drop)]
+#[derive(Clone, Copy)]
 pub enum Standing {
     Open,
     Over(Outcome),
 }
 
 // The step that was handed out and not yet committed, and whether it owes a digest.
-#[derive(Drop)]
+#[derive(Clone, Copy)]
 pub enum Outstanding {
     Free,
     Out { tick: u64, due: bool },
 }
 
 // What the pump sends next.
-#[derive(Drop)]
+#[derive(Clone, Copy)]
 pub enum Emit {
     Hello,
     Inputs,
@@ -53,7 +53,7 @@ pub enum Emit {
 }
 
 // How far the player is.
-#[derive(Drop)]
+#[derive(Clone, Copy)]
 pub struct Play {
     // the tick that is played next, and the one that the next submit fills
     pub pending: u64,
@@ -66,7 +66,7 @@ pub struct Play {
 }
 
 // Who is there: the seats that said Hello, those seen playing, and whether this player has started.
-#[derive(Drop)]
+#[derive(Clone, Copy)]
 pub struct Marks {
     pub hellos: peer::Bits,
     pub playing: peer::Bits,
@@ -74,14 +74,14 @@ pub struct Marks {
 }
 
 // Where the pump's pass is: its kind, and the seat at which it goes on.
-#[derive(Drop)]
+#[derive(Clone, Copy)]
 pub struct Pass {
     pub kind: Emit,
     pub place: u8,
 }
 
 // All of a session but its arrays.
-#[derive(Drop)]
+#[derive(Clone, Copy)]
 pub struct Head {
     pub params: SessionParams,
     pub play: Play,
@@ -107,13 +107,13 @@ pub struct Opened {
     pub answer: Validity,
 }
 
-#[derive(Drop)]
+#[derive(Clone, Copy)]
 pub struct HeadOpened {
     pub head: Head,
     pub answer: Validity,
 }
 
-#[derive(Drop)]
+#[derive(Clone, Copy)]
 pub enum Submit {
     Accepted(u64),
     Ended(Outcome),
@@ -128,20 +128,20 @@ pub struct Submitted {
     pub answer: Submit,
 }
 
-#[derive(Drop)]
+#[derive(Clone, Copy)]
 pub struct HeadSubmitted {
     pub head: Head,
     pub answer: Submit,
 }
 
 // What the host says of its world after a step: its digest, where one is due.
-#[derive(Drop)]
+#[derive(Clone, Copy)]
 pub enum WorldDigest {
     Absent,
     Present(u64),
 }
 
-#[derive(Drop)]
+#[derive(Clone, Copy)]
 pub enum Commit {
     Done,
     BadState,
@@ -155,14 +155,14 @@ pub struct Committed {
     pub answer: Commit,
 }
 
-#[derive(Drop)]
+#[derive(Clone, Copy)]
 pub struct HeadCommitted {
     pub head: Head,
     pub answer: Commit,
 }
 
 // A tick to play: every seat of the roster pressed `width` bytes for it, which stand in the rows beside it.
-#[derive(Drop)]
+#[derive(Clone, Copy)]
 pub struct Step {
     pub tick: u64,
     pub due: bool,
@@ -170,7 +170,7 @@ pub struct Step {
     pub width: u8,
 }
 
-#[derive(Drop)]
+#[derive(Clone, Copy)]
 pub enum Advance {
     Step(Step),
     Waiting,
@@ -191,14 +191,14 @@ pub struct Advanced {
     pub frames: rows::Frames,
 }
 
-#[derive(Drop)]
+#[derive(Clone, Copy)]
 pub struct HeadAdvanced {
     pub head: Head,
     pub answer: Advance,
     pub frames: rows::Frames,
 }
 
-#[derive(Drop)]
+#[derive(Clone, Copy)]
 pub enum Leave {
     Ended(Outcome),
     BadState,
@@ -210,7 +210,7 @@ pub struct Left {
     pub answer: Leave,
 }
 
-#[derive(Drop)]
+#[derive(Clone, Copy)]
 pub struct HeadLeft {
     pub head: Head,
     pub answer: Leave,

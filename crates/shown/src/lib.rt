@@ -17,7 +17,7 @@ use session::{Head, Session, Standing};
 use stats::SessionStats;
 
 // How many ticks from pending upward have every seat's frame, 0 to 64.
-#[derive(Drop)]
+#[derive(Clone, Copy)]
 pub enum Ready {
     Ticks(u64),
     BadState,

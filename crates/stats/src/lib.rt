@@ -1,10 +1,12 @@
 // The six counters of a session, and the one thin function that records a refusal in counters that are lent for change.
+#![tactic(auto)]
+
 ghost use Rattle.std.specs.Prelude.{◌≡◌};
 ghost use Rattle.stats.specs.Stats.{raised_if, no_stats, counted_of, stalled_of};
 
 use logic::{is_outside, raise};
 
-#[derive(Drop)]
+#[derive(Clone, Copy)]
 pub struct SessionStats {
     pub datagrams_refused: u64,
     pub frames_repeated: u64,

@@ -23,7 +23,7 @@ pub const OUT: usize = 16384;
 
 // Of a piece, the bytes that are used for a record, and how many of the record are there: in the piece itself, or at
 // the front of the buffer for a record that has begun.
-#[derive(Drop)]
+#[derive(Clone, Copy)]
 struct Gathered {
     pub used: usize,
     pub size: usize,
@@ -32,7 +32,7 @@ struct Gathered {
 
 // How far a piece is fed: the head that stands, the bytes of the record that has begun, those of the piece that are
 // used and those of the lines they came to.
-#[derive(Drop)]
+#[derive(Clone, Copy)]
 struct Fed {
     pub head: Head,
     pub have: usize,
@@ -42,7 +42,7 @@ struct Fed {
 
 // Between two pieces: the head that stands and the bytes of the record that has begun. It goes on while what there was
 // to write could be written.
-#[derive(Drop)]
+#[derive(Clone, Copy)]
 pub struct Waiting {
     pub head: Head,
     pub have: usize,

@@ -1,6 +1,8 @@
 // The byte writer: pieces, decimals and hex digits go into a lent buffer of 2,048 bytes, behind the text that its first
 // `at` bytes are, and the new length is given back. What does not fit is dropped, and bytes past the text keep their
 // values.
+#![tactic(auto)]
+
 ghost use Rattle.std.specs.Prelude.{◌≡◌, [], ◌∷◌, ◌<◌, length, take};
 ghost use Rattle.text.specs.Text.{page, put_within, put, Copies};
 ghost use Rattle.text.specs.Decimal.{decimal};
@@ -12,7 +14,7 @@ use logic::least;
 pub const LIMIT: usize = 2048;
 
 // What copying a text to a lent buffer comes to.
-#[derive(Drop)]
+#[derive(Clone, Copy)]
 pub enum Copied {
     Written(usize),
     NoRoom,

@@ -24,7 +24,7 @@ pub struct Window {
 }
 
 // What stood in a frame's way: the values of the refusal that it may become.
-#[derive(Drop)]
+#[derive(Clone, Copy)]
 pub enum Note {
     Nothing,
     OutOfWindow { tick: u64, pending: u64 },
@@ -33,7 +33,7 @@ pub enum Note {
 
 // What a message's frames came to so far, beside the window that they go into: the counter of repeats, the last note,
 // and whether a frame was written.
-#[derive(Drop)]
+#[derive(Clone, Copy)]
 pub struct Taken {
     pub repeated: u64,
     pub note: Note,

@@ -9,7 +9,7 @@ use logic::{is_outside, wide};
 pub const REDUNDANCY: u8 = 8;
 
 // I am here, and this is what I believe we play. The agreement number decides, the rest explains.
-#[derive(Drop)]
+#[derive(Clone, Copy)]
 pub struct HelloBody {
     pub agreement: u64,
     pub content: u64,
@@ -23,7 +23,7 @@ pub struct HelloBody {
 
 // My presses for `count` ticks in a row, of `width` bytes each, in a run of bytes that stands beside the record: frame
 // i belongs to tick first + i.
-#[derive(Drop)]
+#[derive(Clone, Copy)]
 pub struct InputsBody {
     pub first: u64,
     pub count: u8,
@@ -31,7 +31,7 @@ pub struct InputsBody {
 }
 
 // What my world and my inputs hashed to after a tick.
-#[derive(Drop)]
+#[derive(Clone, Copy)]
 pub struct DigestBody {
     pub tick: u64,
     pub state: u64,
@@ -39,13 +39,13 @@ pub struct DigestBody {
 }
 
 // I leave, and this is the last tick that I committed.
-#[derive(Drop)]
+#[derive(Clone, Copy)]
 pub struct ByeBody {
     pub tick: u64,
 }
 
 // Other: Chat, Join, Roster and Start as 1 to 4. A session refuses them, so that is all it needs of them.
-#[derive(Drop)]
+#[derive(Clone, Copy)]
 pub enum Body {
     Hello(HelloBody),
     Inputs(InputsBody),
@@ -54,7 +54,7 @@ pub enum Body {
     Other(u8),
 }
 
-#[derive(Drop)]
+#[derive(Clone, Copy)]
 pub struct Message {
     pub sender: u8,
     pub session: u64,
@@ -62,7 +62,7 @@ pub struct Message {
 }
 
 // Why a message is malformed, with what was seen.
-#[derive(Drop)]
+#[derive(Clone, Copy)]
 pub enum WireError {
     SenderPastCeiling { saw: u8, ceiling: u8 },
     SessionZero,
@@ -76,7 +76,7 @@ pub enum WireError {
     UnknownKind { saw: u8 },
 }
 
-#[derive(Drop)]
+#[derive(Clone, Copy)]
 pub enum Form {
     Good,
     Malformed(WireError),

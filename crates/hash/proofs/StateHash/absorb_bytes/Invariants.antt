@@ -1,0 +1,10 @@
+use Rattle.std.proofs.Common.{◌≡◌, ◌-◌, ◌≤◌, length, drop, sym, ◌∙◌, rules}
+use Rattle.hash.specs.Fnv.{fnv}
+use Rattle.hash.proofs.Laws.{fnv_byte, fnv_end}
+use Rattle.hash.proofs.StateHash.absorb_bytes.Given as goal
+
+abbrev pub invariant-loop-i : goal.invariant-loop-i
+invariant-loop-i l = (l.i ≤ length l.bytes) × (fnv l.h.value (drop l.i l.bytes) ≡ fnv l.initial.h.value l.bytes)
+
+abbrev pub decreases-loop-i : goal.decreases-loop-i
+decreases-loop-i l = length l.bytes - l.i

@@ -1,0 +1,6 @@
+-- `text::copy_out` meets its contract. Assumes nothing.
+use borrow.Author.Rules.{rules}
+use Rattle.text.proofs.copy_out.Goals as goal
+
+pub returns : goal.returns
+returns c = c.copy_from.ensures
