@@ -1,5 +1,7 @@
 // What worlds and inputs hashed to after a tick: the fingerprints of this player and of each other one, sixteen of
 // each, and where they part.
+#![tactic(auto)]
+
 ghost use Rattle.std.specs.Prelude.{◌≡◌, true, false, eqb, get_or, set};
 ghost use Rattle.fingerprint.specs.Cells.{own_cell, remote_cell, no_prints, prints_of, cell_at, stored_at, own};
 ghost use Rattle.fingerprint.specs.Cells.{remote, with_own, with_remote, of_tick, remote_for};

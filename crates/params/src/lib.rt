@@ -1,4 +1,6 @@
 // What every player of a circle must agree on before tick 0: the parameters, their checks and the agreement number.
+#![tactic(auto)]
+
 ghost use Rattle.std.specs.Prelude.{◌≡◌};
 ghost use Rattle.params.specs.Params.{validity, validity_no, bad_state, agreement_of, roster_of, remotes_of};
 

@@ -1,0 +1,24 @@
+-- `fingerprint::LastAgreed::higher` meets its contract. Assumes nothing.
+use borrow.Author.Rules.{rules}
+use borrow.Author.Tests.{lt-ltb, le-ltb}
+use Rattle.logic.specs.Test.{if◌then◌else◌}
+use Rattle.fingerprint.specs.LastAgreed.{higher}
+use Rattle.fingerprint.proofs.LastAgreed.higher.Goals as goal
+
+pub returns-then-a-b : goal.returns-then-a-b
+unfolding higher if◌then◌else◌
+returns-then-a-b c =
+    rw (c.in-At.is, c.in-At-other.is, lt-ltb _ _ c.if-a-b.true)
+
+pub returns-in-Never : goal.returns-in-Never
+unfolding higher
+returns-in-Never c = rw c.in-Never.is
+
+pub returns-in-Never-other : goal.returns-in-Never-other
+unfolding higher
+returns-in-Never-other c = rw (c.in-At.is, c.in-Never-other.is)
+
+pub returns-else-a-b : goal.returns-else-a-b
+unfolding higher if◌then◌else◌
+returns-else-a-b c =
+    rw (c.in-At.is, c.in-At-other.is, le-ltb _ _ c.if-a-b.false)

@@ -1,0 +1,44 @@
+-- `fingerprint::all_agree` meets its contract: the loop's invariant says that no remote below `seat`
+-- denies the print. Assumes nothing.
+use mathlib.Core.Path.{◌≡◌, sym, ◌∙◌}
+use mathlib.Core.Bool.{Bool, true, false, not, ◌||◌, or-true}
+use mathlib.Core.Logic.{⊎_elim}
+use Prim.Native.Nat.{ℕ, ◌≤◌, ◌<◌, ◌-◌}
+use native.Mathlib.Omega.{arith}
+use borrow.Author.Rules.{rules}
+use borrow.Author.Tests.{not-true, not-false}
+use borrow.Author.Count.{below_more}
+use Rattle.peer.specs.Seats.{seats, has}
+use Rattle.peer.proofs.Loops.{every_all, every-not}
+use Rattle.fingerprint.specs.declared.Fingerprint.{Fingerprint}
+use Rattle.fingerprint.specs.declared.Fingerprints.{Fingerprints}
+use Rattle.fingerprint.specs.Cells.{prints_of, remote_for}
+use Rattle.fingerprint.specs.Judging.{agrees, all_agree}
+use Rattle.fingerprint.proofs.all_agree.Goals as goal
+use Rattle.fingerprint.proofs.all_agree.Invariants.{passes}
+
+pub loop-seat-init : goal.loop-seat-init
+loop-seat-init c = (omega arith, λ k l. absurd (omega arith))
+
+pub returns-then-not-agrees : goal.returns-then-not-agrees
+unfolding all_agree
+returns-then-not-agrees c =
+    let a = c.args in
+    let asked : has a.remotes.0 c.loop-seat.seat ≡ true =
+    sym c.contains.ensures ∙ c.if-contains.true in
+    let p = prints_of a.held.now a.ticks.now a.states.now a.inputs.now in
+    let denied : agrees a.mine.state (remote_for p c.loop-seat.seat a.mine.tick) ≡ false =
+    rw (← c.remote_for.ensures) (sym c.agrees.ensures ∙ not-true _ c.if-not-agrees.true) in
+    sym (every-not seats _ c.loop-seat.seat (omega arith) (rw (asked, denied)))
+
+pub loop-seat-preserved : goal.loop-seat-preserved
+loop-seat-preserved c = (
+  omega arith,
+  below_more _ _ c.loop-seat.invariant.1
+      (⊎_elim (λ w. rw (← w.1.ensures, sym w.2.ensures ∙ not-false _ w.3.left, or-true))
+      (λ w. rw (sym c.contains.ensures ∙ w.left)) c.if-contains.branch),
+)
+
+pub returns : goal.returns
+unfolding all_agree
+returns c = sym (every_all seats _ (λ k l. c.loop-seat.invariant.1 k (omega arith)))

@@ -1,0 +1,27 @@
+use mathlib.Core.Path.{◌≡◌, sym, ◌∙◌}
+use mathlib.Core.Bool.{Bool, true, false, not, ◌||◌, or-true}
+use mathlib.Core.Logic.{⊎_elim}
+use Prim.Native.Nat.{ℕ, ◌≤◌, ◌<◌, ◌-◌}
+use native.Mathlib.Omega.{arith}
+use borrow.Author.Rules.{rules}
+use borrow.Author.Tests.{not-true, not-false}
+use borrow.Author.Count.{below_more}
+use Rattle.peer.specs.Seats.{seats, has}
+use Rattle.peer.proofs.Loops.{every_all, every-not}
+use Rattle.fingerprint.specs.declared.Fingerprint.{Fingerprint}
+use Rattle.fingerprint.specs.declared.Fingerprints.{Fingerprints}
+use Rattle.fingerprint.specs.Cells.{prints_of, remote_for}
+use Rattle.fingerprint.specs.Judging.{agrees, all_agree}
+use Rattle.fingerprint.proofs.all_agree.Given as goal
+
+-- seat k does not deny the print
+abbrev pub passes : Fingerprints → ℕ → Fingerprint → ℕ → Bool
+passes p remotes mine k = not (has remotes k) || agrees mine.state (remote_for p k mine.tick)
+
+abbrev pub invariant-loop-seat : goal.invariant-loop-seat
+invariant-loop-seat l =
+    (l.seat ≤ seats)
+    × ((k : ℕ) → k < l.seat → passes (prints_of l.held l.ticks l.states l.inputs) l.remotes.0 l.mine k ≡ true)
+
+abbrev pub decreases-loop-seat : goal.decreases-loop-seat
+decreases-loop-seat l = seats - l.seat

@@ -1,0 +1,28 @@
+-- `fingerprint::last_agreed` meets its contract: the loop's invariant says that `best` is the highest
+-- that the cells so far offer. Assumes nothing.
+use mathlib.Core.Path.{◌≡◌, refl}
+use Prim.Native.Nat.{◌≤◌, ◌-◌}
+use native.Mathlib.Numerals.{add-one}
+use native.Mathlib.Omega.{arith}
+use borrow.Author.Rules.{rules}
+use Rattle.peer.specs.Cells.{history}
+use Rattle.fingerprint.specs.Cells.{prints_of}
+use Rattle.fingerprint.specs.LastAgreed.{agreed_in, last_agreed}
+use Rattle.fingerprint.proofs.last_agreed.Goals as goal
+
+pub loop-cell-init : goal.loop-cell-init
+unfolding agreed_in
+loop-cell-init c = (omega arith, refl)
+
+pub loop-cell-preserved : goal.loop-cell-preserved
+unfolding agreed_in
+loop-cell-preserved c = (
+  omega arith,
+  rw (add-one, ← c.loop-cell.invariant.1, ← c.offer.ensures) c.higher-best.ensures,
+)
+
+pub returns : goal.returns
+unfolding last_agreed
+returns c =
+    let all : c.loop-cell.cell ≡ history = omega arith in
+    rw (← all) c.loop-cell.invariant.1

@@ -1,0 +1,8 @@
+-- `fingerprint::own` meets its contract. Assumes nothing.
+use borrow.Author.Rules.{rules}
+use Rattle.fingerprint.specs.Cells.{own}
+use Rattle.fingerprint.proofs.own.Goals as goal
+
+pub returns : goal.returns
+unfolding own
+returns c = rw (← c.own_cell.ensures) c.cell_at.ensures
