@@ -1,0 +1,14 @@
+-- `desync::DesyncReport::agreed` meets its contract. Assumes nothing.
+use Rattle.text.proofs.Writing.{put-join}
+use Rattle.desync.specs.Json.{agreed_text}
+use Rattle.desync.proofs.DesyncReport.agreed.Goals as goal
+
+pub returns : goal.returns
+unfolding agreed_text
+returns c =
+    rw (
+      put-join,
+      ← c.digest-agreement.ensures,
+      ← c.digest-content.ensures,
+      ← c.digest-rules.ensures,
+    ) c.number.ensures

@@ -1,0 +1,9 @@
+-- `desync::DesyncReport::head` meets its contract. Assumes nothing.
+use Rattle.text.proofs.Writing.{put-join}
+use Rattle.desync.specs.Json.{head_text}
+use Rattle.desync.proofs.DesyncReport.head.Goals as goal
+
+pub returns : goal.returns
+unfolding head_text
+returns c =
+    rw (put-join, ← c.number-tick.ensures, ← c.number-local.ensures) c.number.ensures
