@@ -1,5 +1,7 @@
 // The trace form of a script's lines: every message whole, and after each record what the session shows. Programs are
 // held against each other by it. All goes into the buffer that has the record's line.
+#![tactic(auto)]
+
 ghost use Rattle.std.specs.Prelude.{◌*◌, ◌≤◌, min, ◌≡◌, length};
 ghost use Rattle.text.specs.Text.{page, put};
 ghost use Rattle.lines.specs.Lines.{Says};
