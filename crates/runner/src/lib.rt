@@ -1,5 +1,7 @@
 // The script runner: one record in, its lines out, and the session that stands after it. The session's arrays and the
 // buffer for the lines are lent. The programs add reading and writing, nothing else.
+#![tactic(auto)]
+
 ghost use Rattle.std.specs.Prelude.{ℕ, ◌≤◌, ◌≡◌, List, length};
 ghost use Rattle.window.specs.Window.{window_of};
 ghost use Rattle.fingerprint.specs.Cells.{prints_of};
