@@ -1,5 +1,7 @@
 // The messages that players send each other, as records, and the reasons for which one is malformed. Whatever can be
 // told from a record alone is told here; what depends on the session is the session's.
+#![tactic(auto)]
+
 ghost use Rattle.std.specs.Prelude.{◌≡◌};
 ghost use Rattle.wire.specs.Wire.{hello_form, inputs_form, other_form, form_of, reason_no};
 

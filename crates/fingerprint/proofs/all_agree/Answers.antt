@@ -15,6 +15,7 @@ use Rattle.fingerprint.specs.declared.Fingerprints.{Fingerprints}
 use Rattle.fingerprint.specs.Cells.{prints_of, remote_for}
 use Rattle.fingerprint.specs.Judging.{agrees, all_agree}
 use Rattle.fingerprint.proofs.all_agree.Goals as goal
+use Rattle.fingerprint.proofs.all_agree.Goals.{then-contains+else-not-agrees, else-contains}
 use Rattle.fingerprint.proofs.all_agree.Invariants.{passes}
 
 pub loop-seat-init : goal.loop-seat-init
@@ -28,15 +29,17 @@ returns-then-not-agrees c =
     sym c.contains.ensures ∙ c.if-contains.true in
     let p = prints_of a.held.now a.ticks.now a.states.now a.inputs.now in
     let denied : agrees a.mine.state (remote_for p c.loop-seat.seat a.mine.tick) ≡ false =
-    rw (← c.remote_for.ensures) (sym c.agrees.ensures ∙ not-true _ c.if-not-agrees.true) in
+    rw (← c.remote_for.ensures) (sym c.agrees.ensures ∙ c.if-not-agrees.true) in
     sym (every-not seats _ c.loop-seat.seat (omega arith) (rw (asked, denied)))
 
 pub loop-seat-preserved : goal.loop-seat-preserved
 loop-seat-preserved c = (
   omega arith,
   below_more _ _ c.loop-seat.invariant.1
-      (⊎_elim (λ w. rw (← w.1.ensures, sym w.2.ensures ∙ not-false _ w.3.left, or-true))
-      (λ w. rw (sym c.contains.ensures ∙ w.left)) c.if-contains.branch),
+      (elim c.if-contains.branch [
+        | then-contains+else-not-agrees w ↦ rw (← w.remote_for.ensures, sym w.agrees.ensures ∙ w.if-not-agrees.false, or-true)
+        | else-contains w ↦ rw (sym c.contains.ensures ∙ w.if-contains.false)
+      ]),
 )
 
 pub returns : goal.returns
