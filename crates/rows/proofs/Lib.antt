@@ -1,4 +1,3 @@
 mod Loops
 pub mod Laws
 mod Examples
-mod Unmapped

@@ -1,4 +1,6 @@
 // A step's frames, as eight rows of sixteen bytes by value, and what a step hashes.
+#![tactic(auto)]
+
 ghost use Rattle.std.specs.Prelude.{◌≡◌, List, ℕ, ◌+◌, ◌≤◌, take, drop};
 ghost use Rattle.logic.specs.Test.{if◌then◌else◌};
 ghost use Rattle.hash.specs.Fnv.{fnv};

@@ -1,4 +1,6 @@
 // The script that a session is driven by: where a record ends, and what it asks. Nothing here reads a session.
+#![tactic(auto)]
+
 ghost use Rattle.std.specs.Prelude.{◌+◌, ◌*◌, ◌^◌, ◌<◌, ◌≤◌, ◌≡◌, length, get_or};
 ghost use Rattle.script.specs.Records.{le, longest, record_size, record_lacks, right_length};
 ghost use Rattle.script.specs.Records.{params_from, body_from, message_from, call_from, asked, rest_start, rest_of};

@@ -1,5 +1,7 @@
 // The window: every seat's presses for the ticks from pending on, in one flat ring of bytes, with the tick at which
 // each cell stands and the seats that it holds. Its three arrays are lent: no call here copies them.
+#![tactic(auto)]
+
 ghost use Rattle.std.specs.Prelude.{◌≡◌, List, ℕ, ◌+◌, ◌≤◌, length};
 ghost use Rattle.std.proofs.Math.Seq.{paste};
 ghost use Rattle.window.specs.Window.{frame_start, fresh_window, window_of, held_by, is_held, standing, write_frame};

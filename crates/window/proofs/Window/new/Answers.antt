@@ -2,12 +2,8 @@
 -- ring's zeros. Assumes nothing.
 use mathlib.Core.Path.{refl}
 use Rattle.window.specs.Window.{fresh_window}
-use Rattle.window.proofs.Window.new.Statement.{statement}
-use Rattle.window.proofs.Window.new.Tie as tie
+use Rattle.window.proofs.Window.new.Goals as goal
 
-returns : tie.Need-returns
+pub returns : goal.returns
 unfolding fresh_window
 returns c = refl
-
-pub new_spec : {M : Type 1} → statement M
-new_spec = tie.close (tie.spec returns)
