@@ -2,6 +2,8 @@
 // and the arrays of its window and its prints, which are lent to the calls in place: these copy none of them. The calls
 // by value take a whole session and hand the next one back; they are the calls in place on its parts. `deliver` and
 // `pump` are the crates that bring messages in and out.
+#![tactic(auto)]
+
 ghost use Rattle.std.specs.Prelude.{◌≡◌, false, List, ℕ};
 ghost use Rattle.params.specs.Params.{bad_state};
 ghost use Rattle.window.specs.Window.{window_of};
@@ -793,11 +795,7 @@ impl Session {
     pub fn advance(mut self) -> Advanced
         ensures { result ≡ advance self }
     {
-        let window = self.window;
-        let ring = window.ring;
-        let ticks = window.ticks;
-        let present = window.present;
-        let done = self.head.advance(&ring, &ticks, &present);
+        let done = self.head.advance(&self.window.ring, &self.window.ticks, &self.window.present);
         let head = done.head;
         let answer = done.answer;
         let frames = done.frames;

@@ -1,0 +1,6 @@
+-- `session::beside` meets its contract. Assumes nothing.
+use borrow.Author.Rules.{rules}
+use Rattle.session.proofs.beside.Goals as goal
+
+pub returns : goal.returns
+returns c = rw c.lay-frames.ensures

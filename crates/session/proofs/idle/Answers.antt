@@ -1,0 +1,8 @@
+-- `session::idle` meets its contract. Assumes nothing.
+use borrow.Author.Rules.{rules}
+use Rattle.session.specs.Step.{no_rows}
+use Rattle.session.proofs.idle.Goals as goal
+
+pub returns : goal.returns
+unfolding no_rows
+returns c = c.beside.ensures
