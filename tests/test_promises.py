@@ -93,7 +93,8 @@ class Heads(unittest.TestCase):
         self.has(["ghost top: { ℕ }", GIVES], f"pub fn f(x: u8) -> u8\n    ghost top: {{ ℕ }}\n    {GIVES}\n{{")
 
     def test_code_in_a_clause(self):
-        for code in "<[u8; {4}] as Ord>", "<[u8; b'}' as usize] as Ord>", '<[u8; b"}{{".len()] as Ord>', "<Set<'a> as Ord>":
+        sizes = "<[u8; {4}] as Ord>", "<[u8; b'}' as usize] as Ord>", '<[u8; b"}{{".len()] as Ord>'
+        for code in *sizes, "<Set<'a> as Ord>":
             clause = f"ensures {{ result ≡ ⟦{code}⟧.cmp x x }}"
             self.has([clause], f"pub fn f(x: u8) -> u8\n    {clause}\n{{")
 

@@ -93,7 +93,8 @@ class Refusals(unittest.TestCase):
         self.assertIn("for its shape", self.judged("take", "returns-then-n-gt-8", *said, beside=["returns"]))
         for beside in ["returns-else-n-gt-8"], ["returns-then-n-gt-8", "returns-else-n-gt-8"], ["returns"]:
             self.assertIn("is to be refused at", self.judged("take", "returns", *said, beside=beside))
-        self.assertIn("is to be refused at", self.judged("take", "returns", said[0], said[-1], beside=["returns-then-n-gt-8"]))
+        self.assertIn("is to be refused at",
+                      self.judged("take", "returns", said[0], said[-1], beside=["returns-then-n-gt-8"]))
 
     def test_a_fact_that_no_search_finds(self):
         said = (
@@ -223,7 +224,8 @@ class Refusals(unittest.TestCase):
 
     def by_line(self, *said):
         """What is amiss where `rt ci` says this of a file that has wrong answers for `take` and for `Set::add`."""
-        found = [refusals.Wrong("x", "take", "returns-then-n-gt-8", "fact"), refusals.Wrong("y", "Set::add", "returns", "fact")]
+        found = [refusals.Wrong("x", where, place, "fact") for where, place in (
+            ("take", "returns-then-n-gt-8"), ("Set::add", "returns"))]
         return refusals.judged_by_line(self.crate, found, "".join(said))
 
     def test_what_rt_ci_says_of_an_edit(self):
@@ -232,6 +234,9 @@ class Refusals(unittest.TestCase):
             "./proofs/Set/add/Answers.antt:9:1: error: `returns`: give a proof of that",
             "note: src/lib.rt:9:1: it is not proved that what the function ensures holds (`returns-then-n-gt-8`); the",
             "note: src/lib.rt:9:1: it is not proved that what the function ensures ho",
+            "./proofs/one/Answers.antt:9:1: error: `returns`: give a proof of that",
+            "./proofs/Laws.antt:9:1: error: `returns`: give a proof of that",
+            "note: src/lib.rt:19:1: it is not proved that what the function ensures holds (`returns`)",
         ):
             self.assertIsNone(self.by_line("refused, as it must be: ", said), said)
 
@@ -239,13 +244,11 @@ class Refusals(unittest.TestCase):
         for said in (
             "./proofs/take/Answers.antt:9:1: error: `returns`: give a proof of that",
             "./proofs/Set/add/Answers.antt:9:1: error: `returns-then-n-gt-8`: give a proof of that",
-            "./proofs/one/Answers.antt:9:1: error: `returns`: give a proof of that",
-            "./proofs/Laws.antt:9:1: error: `returns`: give a proof of that",
-            "note: src/lib.rt:19:1: it is not proved that what the function ensures holds (`returns`)",
+            "note: src/lib.rt:9:1: it is not proved that what the function ensures holds (`returns`); the",
         ):
-            self.assertIn("it is refused first in", self.by_line("refused, as it must be: ", said), said)
+            self.assertIn("is refused first at", self.by_line("refused, as it must be: ", said), said)
         for said in "", ": ", ": something else":
-            self.assertIn("it is refused, and not where", self.by_line("refused, as it must be", said), said)
+            self.assertIn("it is refused, and not for a fact", self.by_line("refused, as it must be", said), said)
 
     def test_what_rt_ci_says_of_an_edit_that_shows_nothing(self):
         at = "./proofs/take/Answers.antt:9:1: error: `returns-then-n-gt-8`: "
@@ -253,7 +256,7 @@ class Refusals(unittest.TestCase):
             "BAD EDIT: an 'old:' text is in src/lib.rt 0 times, and not once",
             "NOT REFUSED: the crate is still proved with this edit",
             "NOT TRIED: its check was killed, most likely for memory",
-            f"refused, as it must be (only because a proof file names what the edit took away): {at}`foo` is not in scope",
+            f"refused, as it must be (only because a proof file names what is gone): {at}`foo` is not in scope",
             f"refused, as it must be (only by a limit of the prover, which gave no verdict): {at}antt ran out of stack",
             f"refused, as it must be: {at}`foo` is not in scope",
             f"refused, as it must be: {at}`omega` stopped at a bound of its own",
@@ -281,12 +284,13 @@ class Checks(unittest.TestCase):
     def setUp(self):
         self.top = pathlib.Path(self.enter(tempfile.TemporaryDirectory()))
         for name, text in {
-            "crates.txt": BASE, "crates/box/src/lib.rt": SOURCE, "crates/low/src/lib.rt": "", "crates/high/src/lib.rt": "",
-            "crates/box/must-fail/wrong_1.edit": EDIT, "crates/box/out/kept": "",
+            "crates.txt": BASE, "crates/box/src/lib.rt": SOURCE, "crates/low/src/lib.rt": "",
+            "crates/high/src/lib.rt": "", "crates/box/must-fail/wrong_1.edit": EDIT, "crates/box/out/kept": "",
         }.items():
             (self.top / name).parent.mkdir(parents=True, exist_ok=True)
             (self.top / name).write_text(text)
         self.enter(mock.patch.object(refusals, "TOP", self.top))
+        self.enter(mock.patch.object(refusals, "KEPT", self.top / "kept"))
         self.enter(mock.patch.object(refusals, "kit", lambda: b"kit"))
         self.enter(mock.patch.object(refusals, "check", self.check))
         self.checked, self.says = [], [
@@ -317,7 +321,8 @@ class Checks(unittest.TestCase):
         edited = SOURCE.replace("    n\n", "    0\n").replace("return 8;", "return 9;")
         self.assertEqual(self.checked, [(["box", "low"], SOURCE), (["box", "low"], edited)])
         self.assertEqual(self.run_on("box"), well)
-        self.assertEqual(self.run_on("low"), (0, "refusals: 0 wrong answers in 0 edits, each refused at its own place\n", ""))
+        none = "refusals: 0 wrong answers in 0 edits, each refused at its own place\n"
+        self.assertEqual(self.run_on("low"), (0, none, ""))
 
     def test_what_is_listed(self):
         status, out, _ = self.run_on("--list", "box")
@@ -356,15 +361,18 @@ class Checks(unittest.TestCase):
             self.assertEqual(self.run_on()[0], 0, change)
             self.assertEqual(len(self.checked), checks, change)
 
-    def test_no_text_of_rattle_is_left_in_target(self):
+    def test_nothing_is_left_but_what_the_checks_said(self):
+        before = set(self.top.rglob("*"))
         self.run_on()
-        self.assertEqual([path.name for path in self.top.glob("target/**/*.*")], ["wrong_1.said"])
+        kept = self.top / "kept"
+        self.assertEqual(set(self.top.rglob("*")) - before, {kept, kept / "box", kept / "box" / "wrong_1.said"})
 
     def test_by_what_rt_ci_printed(self):
-        line = "rt: must-fail box/wrong_1.edit: refused, as it must be: ./proofs/take/Answers.antt:9:1: error: `returns`: give"
+        at = "./proofs/take/Answers.antt:9:1: error: `returns`: give a proof"
+        line = f"rt: must-fail box/wrong_1.edit: refused, as it must be: {at}"
         log = self.top / "log"
         log.write_text(f"rt: box proved\n{line}\n1 passed, 0 failed\n")
-        well = "refusals: 1 edits with 2 wrong answers, each edit refused first where one of its answers is\n"
+        well = "refusals: 2 wrong answers in 1 edits, of each edit the first refusal is for a fact\n"
         self.assertEqual(self.run_on("--said", str(log)), (0, well, ""))
         self.assertEqual(self.checked, [])
         log.write_text("rt: box proved\n")

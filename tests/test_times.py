@@ -36,8 +36,8 @@ class Times(unittest.TestCase):
         return out.getvalue().splitlines()
 
     def test_the_table(self):
-        self.assertEqual(self.told(LOG)[2:6], ["| logic | 9 | 9 | 2 |", "| hash | 9 | kept | 0 |", "| peer | 30 | 21 | 0 |",
-                                               "| wire | 44 | 14 | 1 |"])
+        rows = "| logic | 9 | 9 | 2 |", "| hash | 9 | kept | 0 |", "| peer | 30 | 21 | 0 |", "| wire | 44 | 14 | 1 |"
+        self.assertEqual(self.told(LOG)[2:6], list(rows))
         self.assertEqual(self.told(LOG)[-1], "all proved at 44 s, 3 edits told of at 60 s")
 
     def test_a_run_that_proved_nothing(self):
