@@ -116,7 +116,8 @@ class Heads(unittest.TestCase):
         for text in ("// a { brace, and /* no comment", "/* } /* } */ } */",
                      "if x == 1 {\n        return S { a: 1 };\n    }",
                      'let a = b"} pub fn g() {\\" }";', 'let a = br#"" }"#;', 'let a = br"\\"; // "',
-                     "let a = [b'}', b'\\'', b'\"', b'\\x7b'];"):
+                     "let a = [b'}', b'\\'', b'\"', b'\\x7b'];", "let a = ['}', '\\'', '\"', '\\u{7b}'];",
+                     'println!(rt; "\\"{a}\\" }}")?;', "let a: &'a [&'b u8] = g::<'a, 'b>();"):
             self.has([], f"pub fn f(x: u8) -> u8 {{\n    {text}")
 
     def test_exported_functions(self):
