@@ -1,6 +1,5 @@
 -- `desync::heard_from` meets its contract. Assumes nothing.
 use mathlib.Core.Path.{sym, ◌∙◌}
-use borrow.Author.Rules.{rules}
 use Rattle.logic.specs.Test.{if◌then◌else◌}
 use Rattle.desync.specs.Report.{heard_from}
 use Rattle.desync.proofs.heard_from.Goals as goal

@@ -1,6 +1,5 @@
 -- `desync::seat_digest` meets its contract. Assumes nothing.
 use mathlib.Core.Path.{sym, ◌∙◌}
-use borrow.Author.Rules.{rules}
 use Rattle.logic.specs.Test.{if◌then◌else◌}
 use Rattle.desync.specs.Json.{seat_digest}
 use Rattle.desync.proofs.seat_digest.Goals as goal

@@ -1,6 +1,5 @@
 -- `desync::seek` meets its contract. Assumes nothing.
 use mathlib.Core.Path.{sym, ◌∙◌}
-use borrow.Author.Rules.{rules}
 use Rattle.logic.specs.Test.{if◌then◌else◌}
 use Rattle.desync.specs.Asked.{sought}
 use Rattle.desync.proofs.seek.Goals as goal

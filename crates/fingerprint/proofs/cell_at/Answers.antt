@@ -1,6 +1,5 @@
 -- `fingerprint::cell_at` meets its contract: the mark decides. Assumes nothing.
 use mathlib.Core.Path.{sym, ◌∙◌}
-use borrow.Author.Rules.{rules}
 use Rattle.logic.specs.Test.{if◌then◌else◌}
 use Rattle.logic.proofs.Cases.{if_false}
 use Rattle.fingerprint.specs.Cells.{cell_at}

@@ -1,5 +1,4 @@
 -- `fingerprint::offer` meets its contract: each return goes by the tests on its way. Assumes nothing.
-use borrow.Author.Rules.{rules}
 use borrow.Author.Tests.{lt-ltb, le-ltb}
 use Rattle.logic.specs.Test.{if◌then◌else◌}
 use Rattle.fingerprint.specs.LastAgreed.{offer}

@@ -1,6 +1,5 @@
 -- `script::body_from` meets its contract: each kind by its own number. Assumes nothing.
 use native.Mathlib.Omega.{arith}
-use borrow.Author.Rules.{rules}
 use borrow.Author.Tests.{ne_eqb}
 use Rattle.logic.specs.Test.{if◌then◌else◌}
 use Rattle.script.specs.Records.{body_from}

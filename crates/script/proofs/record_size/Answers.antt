@@ -1,6 +1,5 @@
 -- `script::record_size` meets its contract. Assumes nothing.
 use native.Mathlib.Omega.{arith}
-use borrow.Author.Rules.{rules}
 use borrow.Author.Tests.{lt-ltb, le-ltb}
 use Rattle.logic.specs.Test.{if◌then◌else◌}
 use Rattle.script.specs.Records.{record_size}

@@ -1,5 +1,4 @@
 -- `stats::raise_if` meets its contract. Assumes nothing.
-use borrow.Author.Rules.{rules}
 use Rattle.logic.specs.Test.{if◌then◌else◌}
 use Rattle.stats.specs.Stats.{raised_if}
 use Rattle.stats.proofs.raise_if.Goals as goal

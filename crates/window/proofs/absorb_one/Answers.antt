@@ -4,7 +4,7 @@ use mathlib.Core.Path.{◌≡◌}
 use mathlib.Core.Bool.{true}
 use mathlib.Core.List.{List}
 use borrow.Author.Rules.{rules}
-use borrow.Author.Tests.{lt-ltb, le-ltb, le-leb, not-true, not-false}
+use borrow.Author.Tests.{lt-ltb, le-ltb, le-leb}
 use Rattle.logic.specs.Test.{if◌then◌else◌}
 use Rattle.window.specs.declared.Note.TheVariants.{Contradiction}
 use Rattle.window.specs.declared.Window.{Window}

@@ -1,5 +1,4 @@
 -- `window::held_by` meets its contract. Assumes nothing.
-use borrow.Author.Rules.{rules}
 use borrow.Author.Tests.{eq-eqb, ne_eqb}
 use Rattle.logic.specs.Test.{if◌then◌else◌}
 use Rattle.window.specs.Window.{held_by}

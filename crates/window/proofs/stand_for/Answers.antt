@@ -1,6 +1,5 @@
 -- `window::stand_for` meets its contract: each return is a case of the definition. Assumes nothing.
 use native.Mathlib.Nat.{add-sub_cancel_left}
-use borrow.Author.Rules.{rules}
 use Rattle.logic.specs.Test.{if◌then◌else◌}
 use Rattle.logic.proofs.Fronts.{part_min}
 use Rattle.window.specs.Window.{standing}

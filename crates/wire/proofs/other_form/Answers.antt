@@ -1,6 +1,5 @@
 -- `wire::other_form` meets its contract. Assumes nothing.
 use mathlib.Core.Path.{sym, ◌∙◌}
-use borrow.Author.Rules.{rules}
 use Rattle.logic.specs.Test.{if◌then◌else◌}
 use Rattle.wire.specs.Wire.{other_form}
 use Rattle.wire.proofs.other_form.Goals as goal

@@ -1,5 +1,4 @@
 -- `fingerprint::Cell::arrival` meets its contract: each return goes by the tests on its way. Assumes nothing.
-use borrow.Author.Rules.{rules}
 use borrow.Author.Tests.{eq-eqb, ne_eqb}
 use Rattle.logic.specs.Test.{if◌then◌else◌}
 use Rattle.fingerprint.specs.Judging.{arrival_by}

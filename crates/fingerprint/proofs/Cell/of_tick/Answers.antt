@@ -1,5 +1,4 @@
 -- `fingerprint::Cell::of_tick` meets its contract. Assumes nothing.
-use borrow.Author.Rules.{rules}
 use borrow.Author.Tests.{eq-eqb, ne_eqb}
 use Rattle.logic.specs.Test.{if◌then◌else◌}
 use Rattle.fingerprint.specs.Cells.{of_tick}

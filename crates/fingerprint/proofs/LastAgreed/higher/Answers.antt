@@ -1,5 +1,4 @@
 -- `fingerprint::LastAgreed::higher` meets its contract. Assumes nothing.
-use borrow.Author.Rules.{rules}
 use borrow.Author.Tests.{lt-ltb, le-ltb}
 use Rattle.logic.specs.Test.{if◌then◌else◌}
 use Rattle.fingerprint.specs.LastAgreed.{higher}

@@ -4,7 +4,6 @@ use mathlib.Core.Bool.{Bool, false, not}
 use mathlib.Core.Logic.{◌≢◌}
 use Prim.Native.Nat.{◌<◌, ◌≤◌}
 use lib.Dec.{eqb, ltb}
-use borrow.Author.Rules.{rules}
 use borrow.Author.Tests.{lt-ltb, le-ltb, eq-eqb, ne_eqb}
 use Rattle.logic.specs.Test.{if◌then◌else◌}
 use Rattle.logic.specs.Range.{outside}

@@ -4,7 +4,6 @@ use Prim.Native.Nat.{ℕ}
 use mathlib.Core.Path.{◌≡◌, sym, ap, ◌∙◌}
 use mathlib.Core.Bool.{false}
 use mathlib.Core.List.{List}
-use borrow.Author.Rules.{rules}
 use Rattle.logic.specs.Test.{if◌then◌else◌}
 use Rattle.logic.proofs.Cases.{if_false}
 use Rattle.params.specs.Params.{bad_state}

@@ -1,6 +1,5 @@
 -- `session::Head::drain` meets its contract. Assumes nothing.
 use mathlib.Core.Path.{sym, ◌∙◌}
-use borrow.Author.Rules.{rules}
 use Rattle.logic.specs.Test.{if◌then◌else◌}
 use Rattle.session.specs.Step.{drain}
 use Rattle.session.proofs.Head.drain.Goals as goal

@@ -1,5 +1,4 @@
 -- `session::Head::keep_digest` meets its contract. Assumes nothing.
-use borrow.Author.Rules.{rules}
 use Rattle.logic.specs.Test.{if◌then◌else◌}
 use Rattle.session.specs.Step.{judge, keep_digest}
 use Rattle.session.proofs.Head.keep_digest.Goals as goal

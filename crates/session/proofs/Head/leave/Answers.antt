@@ -1,7 +1,6 @@
 -- `session::Head::leave` meets its contract. Assumes nothing.
 use mathlib.Core.Path.{◌≡◌, sym, ap, ◌∙◌}
 use mathlib.Core.Bool.{false}
-use borrow.Author.Rules.{rules}
 use Rattle.logic.specs.Test.{if◌then◌else◌}
 use Rattle.params.specs.Params.{bad_state}
 use Rattle.session.specs.Host.{leave_by, leave_head}

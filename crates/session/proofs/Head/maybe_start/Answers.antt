@@ -1,6 +1,5 @@
 -- `session::Head::maybe_start` meets its contract. Assumes nothing.
 use mathlib.Core.Path.{sym, ◌∙◌}
-use borrow.Author.Rules.{rules}
 use Rattle.logic.specs.Test.{if◌then◌else◌}
 use Rattle.session.specs.Session.{started}
 use Rattle.session.proofs.Head.maybe_start.Goals as goal

@@ -1,6 +1,5 @@
 -- `session::Head::play_on` meets its contract. Assumes nothing.
 use mathlib.Core.Path.{sym, ◌∙◌}
-use borrow.Author.Rules.{rules}
 use Rattle.logic.specs.Test.{if◌then◌else◌}
 use Rattle.session.specs.Step.{play_on}
 use Rattle.session.proofs.Head.play_on.Goals as goal

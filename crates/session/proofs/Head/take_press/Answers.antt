@@ -1,7 +1,6 @@
 -- `session::Head::take_press` meets its contract: each return is a case of the definition. Assumes nothing.
 use mathlib.Core.Path.{◌≡◌, sym, ap, ◌∙◌}
 use mathlib.Core.Bool.{false}
-use borrow.Author.Rules.{rules}
 use borrow.Author.Tests.{eq-eqb, ne_eqb, le-leb, lt-leb}
 use Rattle.logic.specs.Test.{if◌then◌else◌}
 use Rattle.params.specs.Params.{bad_state}

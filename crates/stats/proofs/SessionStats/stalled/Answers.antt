@@ -1,5 +1,4 @@
 -- `stats::SessionStats::stalled` meets its contract: the count is raised, or raised from 0. Assumes nothing.
-use borrow.Author.Rules.{rules}
 use Rattle.logic.specs.Test.{if◌then◌else◌}
 use Rattle.stats.specs.Stats.{stalled_of}
 use Rattle.stats.proofs.SessionStats.stalled.Goals as goal

@@ -1,12 +1,7 @@
 -- `wire::HelloBody::form` meets its contract: each return goes by the tests on its way. Assumes nothing.
-use mathlib.Core.Path.{◌≡◌, sym, ◌∙◌}
-use mathlib.Core.Bool.{false}
-use borrow.Author.Rules.{rules}
+use mathlib.Core.Path.{sym, ◌∙◌}
 use borrow.Author.Tests.{lt-ltb, le-ltb, eq-eqb, ne_eqb}
 use Rattle.logic.specs.Test.{if◌then◌else◌}
-use Rattle.logic.specs.Range.{outside}
-use Rattle.peer.specs.Seats.{seats}
-use Rattle.params.specs.Params.{min_peers, max_width}
 use Rattle.wire.specs.Wire.{hello_form}
 use Rattle.wire.proofs.HelloBody.form.Goals as goal
 

@@ -4,7 +4,6 @@ use mathlib.Core.Bool.{false, not}
 use Prim.Native.Nat.{ℕ, ◌+◌, ◌*◌}
 use native.Mathlib.Omega.{arith}
 use lib.Dec.{eqb, ltb}
-use borrow.Author.Rules.{rules}
 use borrow.Author.Tests.{lt-ltb, le-ltb, eq-eqb, ne_eqb}
 use Rattle.logic.specs.Test.{if◌then◌else◌}
 use Rattle.logic.specs.Range.{outside}

@@ -6,7 +6,6 @@ use Prim.Native.Nat.{ℕ, ◌<◌}
 use lib.ListN.{length}
 use Rattle.peer.specs.Seats.{seats}
 use Rattle.wire.specs.declared.Message.{Message}
-use borrow.Author.Rules.{rules}
 use borrow.Author.Tests.{lt-ltb, le-ltb, eq-eqb, ne_eqb}
 use Rattle.logic.specs.Test.{if◌then◌else◌}
 use Rattle.wire.specs.Wire.{form_of, body_form}
