@@ -38,7 +38,7 @@ pub returns-in-Deliver : goal.returns-in-Deliver
 unfolding next_of line_of
 returns-in-Deliver c =
     rw c.in-Deliver.is (record {
-      next = ap (λ (r : Delivered). r.session) e;
+      next = ap (λ (r : Delivered). r.session) c.deliver_in-r.ensures;
       says = rw (ap (λ (r : Delivered). r.answer) c.deliver_in-r.ensures) at c.deliver_line.ensures;
     })
 
@@ -67,7 +67,7 @@ unfolding next_of line_of leave
 returns-in-Leave c =
     let s = at_entry (goal.at.returns-in-Leave c).Start in
     rw c.in-Leave.is (record {
-      next = ap (λ (r : HeadLeft). session_of r.head s.window s.prints) e;
+      next = ap (λ (r : HeadLeft). session_of r.head s.window s.prints) c.leave-r.ensures;
       says = rw (ap (λ (r : HeadLeft). r.answer) c.leave-r.ensures) at c.leave_line.ensures;
     })
 
