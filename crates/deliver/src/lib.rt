@@ -1,5 +1,7 @@
 // A message comes in: the checks of its form and its header, then what its kind does to the session. Every refusal is
 // counted. The head goes by value and the arrays are lent; what a message of its kind cannot touch is not lent to it.
+#![tactic(auto)]
+
 ghost use Rattle.std.specs.Prelude.{◌≡◌};
 ghost use Rattle.window.specs.Window.{window_of};
 ghost use Rattle.window.specs.declared.Window as Window';

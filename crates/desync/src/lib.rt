@@ -1,5 +1,7 @@
 // What is written down of two players that parted: the report, and its text, which a support desk reads and tools
 // parse.
+#![tactic(auto)]
+
 ghost use Rattle.std.specs.Prelude.{◌≡◌, ◌≤◌, ◌<◌, min, length};
 ghost use Rattle.peer.specs.Seats.{seats, set_of};
 ghost use Rattle.window.specs.declared.Window as Window';

@@ -1,6 +1,8 @@
 // The pump: what a session sends next. A pass goes kind by kind, each over the other seats, and answers with one
 // message a call until it has come to its end. It changes nothing but the head; the window's arrays are lent to it, and
 // only read.
+#![tactic(auto)]
+
 ghost use Rattle.std.specs.Prelude.{◌≡◌, false, List, ℕ, ◌+◌, ◌-◌, ◌*◌, ◌/◌, ◌%◌, ◌<◌, ◌≤◌, min, ltb, get_or, take, drop};
 ghost use Rattle.logic.specs.Test.{if◌then◌else◌};
 ghost use Rattle.logic.specs.Saturating.{most};
@@ -517,11 +519,7 @@ pub fn next_outbound_in(
 pub fn next_outbound(mut s: Session) -> Pumped
     ensures { result ≡ pump s }
 {
-    let window = s.window;
-    let ring = window.ring;
-    let ticks = window.ticks;
-    let present = window.present;
-    let done = next_outbound_in(s.head, &ring, &ticks, &present);
+    let done = next_outbound_in(s.head, &s.window.ring, &s.window.ticks, &s.window.present);
     let head = done.head;
     let answer = done.answer;
     let run = done.run;

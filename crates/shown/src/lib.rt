@@ -2,6 +2,8 @@
 // the last stands in the head, so such a question takes the head alone and refuses no record, and whoever holds a whole
 // session asks it of `s.head`. What is ready stands in the window: that question is lent the arrays it looks at, and
 // has a second form for a whole session.
+#![tactic(auto)]
+
 ghost use Rattle.std.specs.Prelude.{◌≡◌, List, ℕ, ◌+◌};
 ghost use Rattle.params.specs.Params.{roster_of};
 ghost use Rattle.window.specs.Window.{window_of};

@@ -1,0 +1,6 @@
+-- `deliver::deliver` meets its contract: it is `deliver_in` on its own parts. Assumes nothing.
+use borrow.Author.Rules.{rules}
+use Rattle.deliver.proofs.deliver.Goals as goal
+
+pub returns : goal.returns
+returns c = c.deliver_in-done.ensures

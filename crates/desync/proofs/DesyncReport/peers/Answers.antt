@@ -1,0 +1,27 @@
+-- `desync::DesyncReport::peers` meets its contract: the seats so far are listed. Assumes nothing.
+use mathlib.Core.Path.{◌≡◌}
+use Prim.Native.Nat.{◌≤◌, ◌-◌, min}
+use native.Mathlib.Numerals.{add-one}
+use native.Mathlib.Omega.{arith}
+use borrow.Author.Rules.{rules}
+use Rattle.peer.specs.Seats.{seats}
+use Rattle.text.specs.Text.{page, put}
+use Rattle.text.proofs.Writing.{put-join, put_on}
+use Rattle.desync.specs.Json.{peer_list}
+use Rattle.desync.proofs.DesyncReport.peers.Goals as goal
+
+pub loop-seat-init : goal.loop-seat-init
+unfolding peer_list
+loop-seat-init c = (omega arith, put_on _ _ c.piece-end.ensures)
+
+pub loop-seat-preserved : goal.loop-seat-preserved
+unfolding peer_list
+loop-seat-preserved c =
+    let i = c.loop-seat.invariant.1 in
+    (omega arith, rw (add-one, put-join, ← i) c.peer-end.ensures)
+
+pub returns : goal.returns
+returns c =
+    let r = c.args.self in
+    let all : c.loop-seat.seat ≡ min r.peer_count seats = omega arith in
+    rw c.piece-end.ensures at (rw all at c.loop-seat.invariant.1)

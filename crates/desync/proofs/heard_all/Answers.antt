@@ -1,0 +1,40 @@
+-- `desync::heard_all` meets its contract: the seats so far are heard. Assumes nothing.
+use mathlib.Core.Path.{◌≡◌, refl, sym, ◌∙◌}
+use mathlib.Core.Logic.{⊎_elim}
+use Prim.Native.Nat.{◌-◌}
+use native.Mathlib.Omega.{arith}
+use borrow.Author.Rules.{rules}
+use Rattle.logic.proofs.Tabulated.{Filled, filled_none, filled_more, filled_all}
+use Rattle.peer.specs.Seats.{seats}
+use Rattle.peer.proofs.Loops.{built, built_none, built_with, built_skip, built_all}
+use Rattle.fingerprint.specs.Cells.{prints_of}
+use Rattle.desync.specs.Report.{print_in, is_held, heard_from, heard_all}
+use Rattle.desync.proofs.heard_all.Goals as goal
+
+pub loop-seat-init : goal.loop-seat-init
+loop-seat-init c = (sym (built_none _ _), filled_none refl, filled_none refl)
+
+pub loop-seat-preserved : goal.loop-seat-preserved
+loop-seat-preserved c =
+    let i = c.loop-seat.invariant in (
+      ⊎_elim
+          (λ w. rw (w.2, w.1.ensures, i.0)
+          (built_with seats _ _ (rw (← c.heard_from-cell.ensures) (sym c.is_held_lem.ensures ∙ w.0.taken))))
+          (λ w. rw (w.1, i.0)
+          (built_skip seats _ _ (rw (← c.heard_from-cell.ensures) (sym c.is_held_lem.ensures ∙ w.0.left))))
+          c.if-is_held.branch,
+      filled_more i.1 (omega arith) (rw (c.print_in-print.ensures, c.heard_from-cell.ensures)),
+      filled_more i.2 (omega arith) (rw (c.print_in-print.ensures, c.heard_from-cell.ensures)),
+    )
+
+pub returns : goal.returns
+unfolding heard_all
+returns c =
+    let all : c.loop-seat.seat ≡ seats = omega arith in
+    let i = c.loop-seat.invariant in
+    rw (
+      c.bits.ensures,
+      rw all at i.0 ∙ built_all _ _,
+      filled_all i.1 (omega arith),
+      filled_all i.2 (omega arith),
+    )

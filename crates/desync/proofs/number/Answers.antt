@@ -1,0 +1,7 @@
+-- `desync::number` meets its contract. Assumes nothing.
+use borrow.Author.Rules.{rules}
+use Rattle.desync.proofs.number.Goals as goal
+
+pub returns : goal.returns
+returns c =
+    rw (← c.piece-named.ensures) c.decimal.ensures

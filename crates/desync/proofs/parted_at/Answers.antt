@@ -1,0 +1,6 @@
+-- `desync::parted_at` meets its contract. Assumes nothing.
+use borrow.Author.Rules.{rules}
+use Rattle.desync.proofs.parted_at.Goals as goal
+
+pub returns-in-Desynced : goal.returns-in-Desynced
+returns-in-Desynced c = rw (c.in-Over.is, c.in-Desynced.is)

@@ -1,0 +1,6 @@
+-- `desync::written` meets its contract. Assumes nothing.
+use borrow.Author.Rules.{rules}
+use Rattle.desync.proofs.written.Goals as goal
+
+pub returns-in-Written : goal.returns-in-Written
+returns-in-Written c = rw c.in-Written.is

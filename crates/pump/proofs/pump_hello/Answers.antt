@@ -1,0 +1,40 @@
+-- `pump::pump_hello` meets its contract. Assumes nothing.
+use mathlib.Core.Path.{◌≡◌, sym, ◌∙◌}
+use borrow.Author.Rules.{rules}
+use Rattle.logic.specs.Test.{if◌then◌else◌}
+use Rattle.logic.proofs.Cases.{if_true, if_false}
+use Rattle.window.specs.Window.{window_of}
+use Rattle.session.specs.Session.{is_playing}
+use Rattle.session.specs.declared.Emit.TheVariants.{Hello}
+use Rattle.pump.specs.Pump.{pass_ends, pump_inputs, pump_hello}
+use Rattle.pump.proofs.Loops.{sent_one, sent_none}
+use Rattle.pump.proofs.pump_hello.Goals as goal
+use Rattle.pump.proofs.pump_hello.Goals.{In_default}
+
+pub returns-in-To : goal.returns-in-To
+unfolding pump_hello
+returns-in-To c =
+    let a = c.args in
+    c.send.ensures
+    ∙ sym (sent_one a.h (window_of a.ring.now a.ticks.now a.present.now) Hello _
+    (sym (c.say_next-said.ensures a.ring.now) ∙ c.in-To.is))
+
+-- with nothing said, what comes after the kind
+rest : (c : In_default) → let a = c.args in
+    let w = window_of a.ring.now a.ticks.now a.present.now in
+    pump_hello a.h w a.place ≡ if is_playing a.h then pump_inputs a.h w 0 else pass_ends a.h
+unfolding pump_hello
+rest c =
+    let a = c.args in
+    sent_none a.h (window_of a.ring.now a.ticks.now a.present.now) Hello _
+    (sym (c.say_next-said.ensures a.ring.now) ∙ c.in_default.is)
+
+pub returns-then-is_playing : goal.returns-then-is_playing
+returns-then-is_playing c =
+    c.pump_inputs.ensures
+    ∙ sym (rest (goal.at.returns-then-is_playing c).In_default ∙ if_true _ _ (sym c.is_playing.ensures ∙ c.if-is_playing.true))
+
+pub returns : goal.returns
+returns c =
+    c.pass_ends.ensures
+    ∙ sym (rest (goal.at.returns c).In_default ∙ if_false _ _ (sym c.is_playing.ensures ∙ c.if-is_playing.false))

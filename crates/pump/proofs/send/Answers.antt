@@ -1,0 +1,9 @@
+-- `pump::send` meets its contract. Assumes nothing.
+use borrow.Author.Rules.{rules}
+use Rattle.pump.specs.Pump.{send}
+use Rattle.pump.proofs.send.Goals as goal
+
+pub returns : goal.returns
+unfolding send
+returns c =
+    rw (c.after.ensures, c.run_beside-run.ensures)
