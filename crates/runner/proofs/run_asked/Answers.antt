@@ -1,12 +1,12 @@
 -- `runner::run_asked` meets its contract. Assumes nothing.
 use mathlib.Core.Path.{refl, sym, ◌∙◌}
 use borrow.Author.Rules.{rules}
-use Rattle.logic.specs.Test.{if◌then◌else◌}
+use Rattle.logic.specs.Test.{when◌then◌else◌}
 use Rattle.runner.specs.Runner.{run_asked, asked_line}
 use Rattle.runner.proofs.run_asked.Goals as goal
 
 pub returns-then-bad_state : goal.returns-then-bad_state
-unfolding run_asked asked_line if◌then◌else◌
+unfolding run_asked asked_line when◌then◌else◌
 returns-then-bad_state c =
     rw (c.in-Of.is, sym c.bad_state.ensures ∙ c.if-bad_state.true)
     (record { next = refl; says = c.none_line.ensures })
@@ -21,7 +21,7 @@ returns-in-Open c =
     rw c.in-Open.is c.run_open.ensures
 
 pub returns-else-bad_state : goal.returns-else-bad_state
-unfolding run_asked asked_line if◌then◌else◌
+unfolding run_asked asked_line when◌then◌else◌
 returns-else-bad_state c =
     rw (c.in-Of.is, sym c.bad_state.ensures ∙ c.if-bad_state.false)
     c.run_call.ensures

@@ -3,13 +3,13 @@ use mathlib.Core.List.{append-nil}
 use native.Mathlib.Omega.{arith}
 use borrow.Author.Rules.{rules}
 use lib.ListN.{length-append}
-use Rattle.logic.specs.Test.{if◌then◌else◌}
+use Rattle.logic.specs.Test.{when◌then◌else◌}
 use Rattle.text.proofs.Writing.{put-append}
 use Rattle.trace_text.specs.Trace.{send_lines}
 use Rattle.trace_text.proofs.send_lines.Goals as goal
 
 pub returns-then-traced : goal.returns-then-traced
-unfolding send_lines if◌then◌else◌
+unfolding send_lines when◌then◌else◌
 returns-then-traced c =
     rw c.if-traced.true (record {
       said = rw (put-append, ← c.send_line-line.ensures.says.said) c.sent_line.ensures.writes;
@@ -17,5 +17,5 @@ returns-then-traced c =
     })
 
 pub returns : goal.returns
-unfolding send_lines if◌then◌else◌
+unfolding send_lines when◌then◌else◌
 returns c = rw (c.if-traced.false, append-nil) c.send_line-line.ensures.says
