@@ -27,7 +27,7 @@ use Rattle.wire.specs.declared.Form.{Form}
 use Rattle.wire.specs.declared.Form.TheVariants as Form'
 use Rattle.wire.specs.Wire.{body_form, form_of}
 use Rattle.wire.proofs.Laws.{good_header, good_inputs}
-use Rattle.window.specs.Absorb.{Absorbed, noted, absorb_one, frame_at, untouched, absorb_first, absorb_inputs}
+use Rattle.window.specs.Absorb.{Absorbed, absorb_one, frame_at, untouched, absorb_first, absorb_inputs}
 use Rattle.window.specs.declared.Note.{Note}
 use Rattle.window.specs.declared.Note.TheVariants as Note'
 use Rattle.window.proofs.Absorbing.{absorb_cases}

@@ -1,6 +1,5 @@
 -- `deliver::absorb_digest` meets its contract: by what the Digest is to its sender's cell. Assumes nothing.
 use mathlib.Core.Path.{◌≡◌}
-use borrow.Author.Rules.{rules}
 use Rattle.fingerprint.specs.Cells.{prints_of}
 use Rattle.fingerprint.specs.declared.Arrival.{Arrival}
 use Rattle.window.specs.declared.Window.{Window}

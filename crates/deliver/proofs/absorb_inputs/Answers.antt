@@ -1,5 +1,4 @@
 -- `deliver::absorb_inputs` meets its contract. Assumes nothing.
-use borrow.Author.Rules.{rules}
 use borrow.Author.Tests.{eq-eqb, ne_eqb}
 use Rattle.logic.specs.Test.{when◌then◌else◌}
 use Rattle.stats.specs.Stats.{repeated_of}

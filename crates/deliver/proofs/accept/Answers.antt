@@ -1,5 +1,4 @@
 -- `deliver::accept` meets its contract: each return is a kind of the definition. Assumes nothing.
-use borrow.Author.Rules.{rules}
 use Rattle.window.specs.Window.{window_of}
 use Rattle.fingerprint.specs.Cells.{prints_of}
 use Rattle.session.specs.declared.Session.{Session}

@@ -1,6 +1,5 @@
 -- `deliver::accept_hello` meets its contract. Assumes nothing.
 use mathlib.Core.Path.{sym, ◌∙◌}
-use borrow.Author.Rules.{rules}
 use borrow.Author.Tests.{eq-eqb, ne_eqb}
 use Rattle.logic.specs.Test.{when◌then◌else◌}
 use Rattle.session.specs.Session.{started}

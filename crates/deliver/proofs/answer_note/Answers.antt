@@ -1,5 +1,4 @@
 -- `deliver::answer_note` meets its contract. Assumes nothing.
-use borrow.Author.Rules.{rules}
 use Rattle.deliver.specs.Deliver.{noted}
 use Rattle.deliver.proofs.answer_note.Goals as goal
 

@@ -1,5 +1,4 @@
 -- `deliver::deliver` meets its contract: it is `deliver_in` on its own parts. Assumes nothing.
-use borrow.Author.Rules.{rules}
 use Rattle.deliver.proofs.deliver.Goals as goal
 
 pub returns : goal.returns

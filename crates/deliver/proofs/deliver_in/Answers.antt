@@ -3,7 +3,6 @@ use Prim.Native.Nat.{ℕ}
 use mathlib.Core.Path.{◌≡◌, sym, ap, ◌∙◌}
 use mathlib.Core.Bool.{false}
 use mathlib.Core.List.{List}
-use borrow.Author.Rules.{rules}
 use Rattle.logic.proofs.Cases.{if_true, if_false}
 use Rattle.params.specs.Params.{bad_state}
 use Rattle.wire.specs.declared.Message.{Message}

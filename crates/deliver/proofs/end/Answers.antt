@@ -1,5 +1,4 @@
 -- `deliver::end` meets its contract. Assumes nothing.
-use borrow.Author.Rules.{rules}
 use Rattle.session.specs.Session.{ended}
 use Rattle.deliver.specs.Deliver.{end_with}
 use Rattle.deliver.proofs.end.Goals as goal

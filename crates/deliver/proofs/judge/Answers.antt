@@ -1,5 +1,4 @@
 -- `deliver::judge` meets its contract. Assumes nothing.
-use borrow.Author.Rules.{rules}
 use Rattle.logic.specs.Test.{when◌then◌else◌}
 use Rattle.deliver.specs.Deliver.{judged}
 use Rattle.deliver.proofs.judge.Goals as goal

@@ -1,5 +1,4 @@
 -- `deliver::mark_playing` meets its contract. Assumes nothing.
-use borrow.Author.Rules.{rules}
 use Rattle.deliver.specs.Deliver.{marked}
 use Rattle.deliver.proofs.mark_playing.Goals as goal
 

@@ -1,6 +1,5 @@
 -- `deliver::note_answer` meets its contract. Assumes nothing.
 use mathlib.Core.Path.{sym, ◌∙◌}
-use borrow.Author.Rules.{rules}
 use Rattle.logic.proofs.Cases.{if_true, if_false}
 use Rattle.deliver.specs.Deliver.{note_answer}
 use Rattle.deliver.proofs.note_answer.Goals as goal

@@ -1,5 +1,4 @@
 -- `deliver::refuse` meets its contract. Assumes nothing.
-use borrow.Author.Rules.{rules}
 use Rattle.deliver.specs.Deliver.{refused}
 use Rattle.deliver.proofs.refuse.Goals as goal
 

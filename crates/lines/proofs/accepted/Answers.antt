@@ -1,6 +1,5 @@
 -- `lines::accepted` meets its contract. Assumes nothing.
 use native.Mathlib.Omega.{arith}
-use borrow.Author.Rules.{rules}
 use Rattle.text.proofs.Writing.{put-join, join-length}
 use Rattle.text.proofs.Decimals.{decimal_20}
 use Rattle.lines.specs.Lines.{accepted_text}

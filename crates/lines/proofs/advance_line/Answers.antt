@@ -1,6 +1,5 @@
 -- `lines::advance_line` meets its contract. Assumes nothing.
 use native.Mathlib.Omega.{arith}
-use borrow.Author.Rules.{rules}
 use Rattle.lines.specs.Lines.{advance_line}
 use Rattle.lines.proofs.advance_line.Goals as goal
 

@@ -1,6 +1,5 @@
 -- `lines::bad_line` meets its contract. Assumes nothing.
 use native.Mathlib.Omega.{arith}
-use borrow.Author.Rules.{rules}
 use Rattle.lines.specs.Lines.{bad_line}
 use Rattle.lines.proofs.bad_line.Goals as goal
 

@@ -1,6 +1,5 @@
 -- `lines::body` meets its contract. Assumes nothing.
 use native.Mathlib.Omega.{arith}
-use borrow.Author.Rules.{rules}
 use Rattle.text.proofs.Writing.{put-join, join-length}
 use Rattle.text.proofs.Decimals.{decimal_20}
 use Rattle.lines.specs.Lines.{body_text}
@@ -14,8 +13,11 @@ pub returns-in-Inputs : goal.returns-in-Inputs
 unfolding body_text
 returns-in-Inputs c =
     let at = c.before.before.before.before in
-    let said = rw c.long.ensures at c.worded.ensures in record { writes = rw (at.in-Inputs.is, put-join, ← at.worded-first.ensures) said; within = rw (at.in-Inputs.is, join-length)
-          (omega (arith, decimal_20 at.in-Inputs.b.first (omega arith), decimal_20 at.in-Inputs.b.count (omega arith))) }
+    let said = rw c.long.ensures at c.worded.ensures in record {
+      writes = rw (at.in-Inputs.is, put-join, ← at.worded-first.ensures) said;
+      within = rw (at.in-Inputs.is, join-length)
+          (omega (arith, decimal_20 at.in-Inputs.b.first (omega arith), decimal_20 at.in-Inputs.b.count (omega arith)));
+    }
 
 pub returns-in-Digest : goal.returns-in-Digest
 unfolding body_text

@@ -1,6 +1,5 @@
 -- `lines::cut_line` meets its contract. Assumes nothing.
 use native.Mathlib.Omega.{arith}
-use borrow.Author.Rules.{rules}
 use Rattle.lines.specs.Lines.{cut_line}
 use Rattle.lines.proofs.cut_line.Goals as goal
 

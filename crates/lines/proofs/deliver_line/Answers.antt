@@ -1,5 +1,4 @@
 -- `lines::deliver_line` meets its contract. Assumes nothing.
-use borrow.Author.Rules.{rules}
 use Rattle.lines.specs.Lines.{deliver_line}
 use Rattle.lines.proofs.deliver_line.Goals as goal
 

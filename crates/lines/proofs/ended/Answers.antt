@@ -1,6 +1,5 @@
 -- `lines::ended` meets its contract. Assumes nothing.
 use native.Mathlib.Omega.{arith}
-use borrow.Author.Rules.{rules}
 use Rattle.text.proofs.Writing.{put-join, join-length}
 use Rattle.lines.specs.Lines.{ended_line}
 use Rattle.lines.proofs.ended.Goals as goal

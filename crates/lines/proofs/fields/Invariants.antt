@@ -1,15 +1,9 @@
-use mathlib.Core.Path.{◌≡◌, sym, ap, ◌∙◌}
+use mathlib.Core.Path.{◌≡◌}
 use mathlib.Core.List.{[]}
 use Prim.Native.Nat.{◌+◌, ◌-◌, ◌*◌, ◌≤◌}
-use native.Mathlib.Nat.{sub-zero}
-use native.Mathlib.Omega.{arith}
-use borrow.Author.Rules.{rules}
-use lib.ListN.{length, drop, length-append}
-use Rattle.peer.specs.Seats.{seats}
+use lib.ListN.{length, drop}
 use Rattle.text.specs.Text.{page, put}
-use Rattle.text.proofs.Writing.{put-append, put_on}
 use Rattle.lines.specs.Lines.{field_texts}
-use Rattle.lines.proofs.Laws.{fields_row, fields_end}
 use Rattle.lines.proofs.fields.Given as goal
 
 abbrev pub invariant-loop-k : goal.invariant-loop-k

@@ -1,5 +1,4 @@
 -- `lines::flag` meets its contract. Assumes nothing.
-use borrow.Author.Rules.{rules}
 use Rattle.lines.specs.Lines.{flag_text}
 use Rattle.lines.proofs.flag.Goals as goal
 

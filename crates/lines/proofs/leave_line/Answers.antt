@@ -1,5 +1,4 @@
 -- `lines::leave_line` meets its contract. Assumes nothing.
-use borrow.Author.Rules.{rules}
 use Rattle.lines.specs.Lines.{leave_line}
 use Rattle.lines.proofs.leave_line.Goals as goal
 

@@ -1,6 +1,5 @@
 -- `lines::numbered` meets its contract. Assumes nothing.
 use native.Mathlib.Omega.{arith}
-use borrow.Author.Rules.{rules}
 use Rattle.text.proofs.Writing.{put-join}
 use Rattle.lines.specs.Lines.{numbered}
 use Rattle.lines.proofs.Laws.{numbered-length}

@@ -1,5 +1,4 @@
 -- `lines::open_line` meets its contract. Assumes nothing.
-use borrow.Author.Rules.{rules}
 use Rattle.lines.specs.Lines.{open_line}
 use Rattle.lines.proofs.open_line.Goals as goal
 

@@ -1,6 +1,5 @@
 -- `lines::report_line` meets its contract. Assumes nothing.
 use native.Mathlib.Omega.{arith}
-use borrow.Author.Rules.{rules}
 use Rattle.text.proofs.Writing.{put-join, join-length}
 use Rattle.lines.specs.Lines.{report_line}
 use Rattle.lines.proofs.report_line.Goals as goal

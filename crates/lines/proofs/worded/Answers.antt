@@ -1,5 +1,4 @@
 -- `lines::worded` meets its contract. Assumes nothing.
-use borrow.Author.Rules.{rules}
 use Rattle.lines.proofs.worded.Goals as goal
 
 pub returns : goal.returns

@@ -1,6 +1,5 @@
 -- `pump::addressed` meets its contract. Assumes nothing.
 use mathlib.Core.Path.{sym, ap}
-use borrow.Author.Rules.{rules}
 use Rattle.pump.specs.Pump.{addressed}
 use Rattle.pump.proofs.addressed.Goals as goal
 

@@ -1,6 +1,5 @@
 -- `pump::carried` meets its contract. Assumes nothing.
 use mathlib.Core.Path.{sym, ◌∙◌}
-use borrow.Author.Rules.{rules}
 use borrow.Author.Tests.{eq-eqb, ne_eqb}
 use Rattle.logic.proofs.Cases.{if_true, if_false}
 use Rattle.pump.specs.Pump.{carried}

@@ -1,6 +1,5 @@
 -- `pump::digest_of` meets its contract. Assumes nothing.
 use mathlib.Core.Path.{sym, ap}
-use borrow.Author.Rules.{rules}
 use Rattle.pump.specs.Pump.{digest_of}
 use Rattle.pump.proofs.digest_of.Goals as goal
 

@@ -1,5 +1,4 @@
 -- `pump::hello_of` meets its contract. Assumes nothing.
-use borrow.Author.Rules.{rules}
 use Rattle.pump.specs.Pump.{hello_of}
 use Rattle.pump.proofs.hello_of.Goals as goal
 

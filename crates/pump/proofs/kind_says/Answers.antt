@@ -2,7 +2,6 @@
 use mathlib.Core.Path.{sym, ap, ◌∙◌}
 use mathlib.Core.List.{List}
 use Prim.Native.Nat.{ℕ}
-use borrow.Author.Rules.{rules}
 use Rattle.wire.specs.declared.Body.TheVariants as Body'
 use Rattle.wire.specs.declared.HelloBody.{HelloBody}
 use Rattle.window.specs.Window.{window_of}

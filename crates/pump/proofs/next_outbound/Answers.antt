@@ -1,5 +1,4 @@
 -- `pump::next_outbound` meets its contract: it is the call in place on its parts. Assumes nothing.
-use borrow.Author.Rules.{rules}
 use Rattle.pump.proofs.next_outbound.Goals as goal
 
 pub returns : goal.returns

@@ -1,6 +1,5 @@
 -- `pump::next_outbound_in` meets its contract: each return is a case of the definition. Assumes nothing.
 use mathlib.Core.Path.{◌≡◌, sym, ap, ◌∙◌}
-use borrow.Author.Rules.{rules}
 use Rattle.logic.proofs.Cases.{if_true, if_false}
 use Rattle.window.specs.Window.{window_of}
 use Rattle.window.specs.declared.Window.{Window}

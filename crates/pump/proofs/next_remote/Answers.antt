@@ -1,11 +1,7 @@
 -- `pump::next_remote` meets its contract: what the search finds from `place` on is what it finds from `k` on. Assumes
 -- nothing.
-use mathlib.Core.Path.{◌≡◌, refl, sym, ◌∙◌}
-use Prim.Native.Nat.{◌-◌}
+use mathlib.Core.Path.{sym, ◌∙◌}
 use native.Mathlib.Omega.{arith}
-use borrow.Author.Rules.{rules}
-use Rattle.peer.specs.Seats.{seats}
-use Rattle.pump.specs.Pump.{next_remote}
 use Rattle.pump.proofs.Loops.{next_here, next_on, next_none}
 use Rattle.pump.proofs.next_remote.Goals as goal
 

@@ -1,10 +1,7 @@
-use mathlib.Core.Path.{◌≡◌, refl, sym, ◌∙◌}
+use mathlib.Core.Path.{◌≡◌}
 use Prim.Native.Nat.{◌-◌}
-use native.Mathlib.Omega.{arith}
-use borrow.Author.Rules.{rules}
 use Rattle.peer.specs.Seats.{seats}
 use Rattle.pump.specs.Pump.{next_remote}
-use Rattle.pump.proofs.Loops.{next_here, next_on, next_none}
 use Rattle.pump.proofs.next_remote.Given as goal
 
 abbrev pub invariant-loop-k : goal.invariant-loop-k

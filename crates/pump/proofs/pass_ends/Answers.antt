@@ -1,6 +1,5 @@
 -- `pump::pass_ends` meets its contract. Assumes nothing.
 use mathlib.Core.Path.{ap, ◌∙◌}
-use borrow.Author.Rules.{rules}
 use Rattle.session.specs.Session.{with_pass}
 use Rattle.session.specs.declared.Emit.{Emit}
 use Rattle.pump.specs.declared.Outbound.TheVariants.{Nothing}

@@ -1,6 +1,5 @@
 -- `pump::pump_bye` meets its contract. Assumes nothing.
 use mathlib.Core.Path.{sym, ◌∙◌}
-use borrow.Author.Rules.{rules}
 use Rattle.window.specs.Window.{window_of}
 use Rattle.session.specs.declared.Emit.TheVariants.{Bye}
 use Rattle.pump.specs.Pump.{pass_ends, pump_bye}

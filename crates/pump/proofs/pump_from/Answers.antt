@@ -1,6 +1,5 @@
 -- `pump::pump_from` meets its contract. Assumes nothing.
 use mathlib.Core.Path.{sym, ap, ◌∙◌}
-use borrow.Author.Rules.{rules}
 use Rattle.window.specs.Window.{window_of}
 use Rattle.session.specs.declared.Emit.{Emit}
 use Rattle.pump.specs.declared.HeadPumped.{HeadPumped}

@@ -1,6 +1,5 @@
 -- `pump::pump_inputs` meets its contract. Assumes nothing.
 use mathlib.Core.Path.{◌≡◌, sym, ◌∙◌}
-use borrow.Author.Rules.{rules}
 use Rattle.logic.specs.Test.{when◌then◌else◌}
 use Rattle.logic.proofs.Cases.{if_true, if_false}
 use Rattle.window.specs.Window.{window_of}

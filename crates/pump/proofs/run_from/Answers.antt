@@ -1,16 +1,13 @@
 -- `pump::run_from` meets its contract: the run is filled from the front, and past the frames it is zero.
 -- Assumes nothing.
-use mathlib.Core.Path.{◌≡◌}
-use mathlib.Core.List.{List}
-use Prim.Native.Nat.{ℕ, ◌-◌, ◌*◌, ◌≤◌, min}
+use Prim.Native.Nat.{◌*◌}
 use native.Mathlib.Omega.{arith}
-use borrow.Author.Rules.{rules}
 use borrow.Author.Tests.{le-ltb}
 use Rattle.logic.proofs.Cases.{if_false}
 use Rattle.logic.proofs.Products.{mul_lt_pow}
-use Rattle.window.specs.Window.{window_of, frame_of}
-use Rattle.pump.specs.Pump.{run_bytes, run_byte, run_from}
-use Rattle.pump.proofs.Loops.{RunTo, run_none, run_more, run_whole}
+use Rattle.window.specs.Window.{frame_of}
+use Rattle.pump.specs.Pump.{run_byte, run_from}
+use Rattle.pump.proofs.Loops.{run_none, run_more, run_whole}
 use Rattle.pump.proofs.run_from.Goals as goal
 
 pub overflow_mul-wide : goal.overflow_mul-wide

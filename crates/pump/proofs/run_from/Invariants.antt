@@ -1,14 +1,9 @@
 use mathlib.Core.Path.{◌≡◌}
 use mathlib.Core.List.{List}
 use Prim.Native.Nat.{ℕ, ◌-◌, ◌*◌, ◌≤◌, min}
-use native.Mathlib.Omega.{arith}
-use borrow.Author.Rules.{rules}
-use borrow.Author.Tests.{le-ltb}
-use Rattle.logic.proofs.Cases.{if_false}
-use Rattle.logic.proofs.Products.{mul_lt_pow}
-use Rattle.window.specs.Window.{window_of, frame_of}
-use Rattle.pump.specs.Pump.{run_bytes, run_byte, run_from}
-use Rattle.pump.proofs.Loops.{RunTo, run_none, run_more, run_whole}
+use Rattle.window.specs.Window.{window_of}
+use Rattle.pump.specs.Pump.{run_bytes, run_byte}
+use Rattle.pump.proofs.Loops.{RunTo}
 use Rattle.pump.proofs.run_from.Given as goal
 
 abbrev pub invariant-loop-j : goal.invariant-loop-j

@@ -2,7 +2,6 @@
 use mathlib.Core.Path.{◌≡◌, ap, ◌∙◌}
 use Prim.Native.Nat.{ℕ, ◌-◌}
 use native.Mathlib.Omega.{arith}
-use borrow.Author.Rules.{rules}
 use Rattle.params.proofs.Laws.{sound}
 use Rattle.window.specs.Window.{window_of}
 use Rattle.window.specs.declared.Window.{Window}

@@ -2,7 +2,6 @@
 use mathlib.Core.Path.{◌≡◌, sym, ap, ◌∙◌}
 use mathlib.Core.List.{List}
 use Prim.Native.Nat.{ℕ, ◌-◌}
-use borrow.Author.Rules.{rules}
 use Rattle.peer.specs.Seats.{seats}
 use Rattle.window.specs.Window.{window_of}
 use Rattle.pump.specs.declared.Target.{Target}

@@ -1,5 +1,4 @@
 -- `pump::send` meets its contract. Assumes nothing.
-use borrow.Author.Rules.{rules}
 use Rattle.pump.specs.Pump.{send}
 use Rattle.pump.proofs.send.Goals as goal
 

@@ -1,14 +1,10 @@
 -- `pump::span` meets its contract: the frames so far, and those from `tick` back. Assumes nothing.
-use Prim.Native.Nat.{ℕ, ◌+◌, ◌-◌, ◌≤◌}
+use Prim.Native.Nat.{ℕ}
 use mathlib.Core.Path.{◌≡◌, sym, ◌∙◌}
 use mathlib.Core.Bool.{true}
 use mathlib.Core.List.{List}
 use native.Mathlib.Omega.{arith}
-use borrow.Author.Rules.{rules}
-use borrow.Author.Tests.{not-true, not-false}
-use Rattle.wire.specs.Wire.{redundancy}
 use Rattle.window.specs.Window.{window_of, is_held}
-use Rattle.pump.specs.Pump.{span}
 use Rattle.pump.proofs.Loops.{span_gone, span-start, span_more, span_full}
 use Rattle.pump.proofs.span.Goals as goal
 use Rattle.pump.proofs.span.Goals.{Else-not-holds}

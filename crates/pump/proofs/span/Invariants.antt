@@ -1,14 +1,9 @@
 use Prim.Native.Nat.{ℕ, ◌+◌, ◌-◌, ◌≤◌}
-use mathlib.Core.Path.{◌≡◌, sym, ◌∙◌}
-use mathlib.Core.Bool.{true}
+use mathlib.Core.Path.{◌≡◌}
 use mathlib.Core.List.{List}
-use native.Mathlib.Omega.{arith}
-use borrow.Author.Rules.{rules}
-use borrow.Author.Tests.{not-true, not-false}
 use Rattle.wire.specs.Wire.{redundancy}
-use Rattle.window.specs.Window.{window_of, is_held}
+use Rattle.window.specs.Window.{window_of}
 use Rattle.pump.specs.Pump.{span}
-use Rattle.pump.proofs.Loops.{span_gone, span-start, span_more, span_full}
 use Rattle.pump.proofs.span.Given as goal
 
 abbrev pub invariant-loop-n : goal.invariant-loop-n

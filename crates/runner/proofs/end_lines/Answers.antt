@@ -2,7 +2,6 @@
 use mathlib.Core.Path.{sym}
 use mathlib.Core.List.{[]}
 use native.Mathlib.Omega.{arith}
-use borrow.Author.Rules.{rules}
 use borrow.Author.Tests.{eq-eqb, ne_eqb}
 use Rattle.logic.specs.Test.{when◌then◌else◌}
 use Rattle.text.proofs.Writing.{put_front}

@@ -1,6 +1,5 @@
 -- `runner::run_asked` meets its contract. Assumes nothing.
 use mathlib.Core.Path.{refl, sym, ◌∙◌}
-use borrow.Author.Rules.{rules}
 use Rattle.logic.specs.Test.{when◌then◌else◌}
 use Rattle.runner.specs.Runner.{run_asked, asked_line}
 use Rattle.runner.proofs.run_asked.Goals as goal

@@ -1,6 +1,5 @@
 -- `runner::run_call` meets its contract: each call is the session's own, and its line is its answer's. Assumes nothing.
 use mathlib.Core.Path.{refl, ap, ◌∙◌}
-use borrow.Author.Rules.{rules}
 use Rattle.window.specs.Window.{window_of}
 use Rattle.fingerprint.specs.Cells.{prints_of}
 use Rattle.session.specs.declared.Session.{Session}

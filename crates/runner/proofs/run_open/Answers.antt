@@ -1,6 +1,5 @@
 -- `runner::run_open` meets its contract. Assumes nothing.
 use mathlib.Core.Path.{sym, ap, ◌∙◌}
-use borrow.Author.Rules.{rules}
 use Rattle.logic.proofs.Cases.{if_true, if_false}
 use Rattle.session.specs.Session.{fresh}
 use Rattle.session.specs.declared.Opened.{Opened}

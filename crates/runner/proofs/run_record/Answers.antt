@@ -1,6 +1,5 @@
 -- `runner::run_record` meets its contract. Assumes nothing.
 use mathlib.Core.Path.{refl}
-use borrow.Author.Rules.{rules}
 use Rattle.runner.specs.Runner.{run_record, record_lines}
 use Rattle.runner.proofs.Laws.{shown_behind}
 use Rattle.runner.proofs.run_record.Goals as goal

@@ -1,6 +1,5 @@
 -- `runner::show` meets its contract. Assumes nothing.
 use native.Mathlib.Omega.{arith}
-use borrow.Author.Rules.{rules}
 use Rattle.runner.specs.Runner.{shown_line}
 use Rattle.runner.proofs.show.Goals as goal
 

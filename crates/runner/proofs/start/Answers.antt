@@ -1,6 +1,5 @@
 -- `runner::start` meets its contract. Assumes nothing.
 use mathlib.Core.Path.{ap, ◌∙◌}
-use borrow.Author.Rules.{rules}
 use Rattle.session.specs.Session.{fresh}
 use Rattle.session.specs.declared.Opened.{Opened}
 use Rattle.session.specs.Host.{opened}

@@ -1,7 +1,6 @@
 -- `shown::is_playing` meets its contract. Assumes nothing.
 use mathlib.Core.Path.{sym, ◌∙◌}
 use mathlib.Core.Bool.{and-true, and-false}
-use borrow.Author.Rules.{rules}
 use Rattle.session.specs.Session.{is_playing}
 use Rattle.shown.proofs.is_playing.Goals as goal
 

@@ -1,5 +1,4 @@
 -- `shown::ready_ticks` meets its contract: it is the question in place on the session's parts. Assumes nothing.
-use borrow.Author.Rules.{rules}
 use Rattle.shown.proofs.ready_ticks.Goals as goal
 
 pub returns : goal.returns

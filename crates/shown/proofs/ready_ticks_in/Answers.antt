@@ -1,6 +1,5 @@
 -- `shown::ready_ticks_in` meets its contract. Assumes nothing.
 use mathlib.Core.Path.{refl, sym, ap, ◌∙◌}
-use borrow.Author.Rules.{rules}
 use Rattle.logic.proofs.Cases.{if_true, if_false}
 use Rattle.shown.specs.declared.Ready.TheVariants.{Ticks}
 use Rattle.shown.specs.Ahead.{ready_ticks}

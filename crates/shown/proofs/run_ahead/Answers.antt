@@ -1,18 +1,8 @@
 -- `shown::run_ahead` meets its contract: every tick before this turn's is ready, so that the run at the front of all 64
 -- ends at the first that is not. Assumes nothing.
-use Prim.Native.Nat.{ℕ, ◌+◌, ◌≤◌, ◌<◌, ◌-◌}
-use mathlib.Core.Path.{◌≡◌, sym, ◌∙◌}
-use mathlib.Core.Bool.{true}
-use mathlib.Core.List.{List}
+use mathlib.Core.Path.{sym, ◌∙◌}
 use native.Mathlib.Omega.{arith}
-use borrow.Author.Rules.{rules}
-use borrow.Author.Tests.{not-true, not-false}
 use borrow.Author.Count.{below_more}
-use Rattle.peer.specs.Cells.{window}
-use Rattle.params.specs.Params.{roster_of}
-use Rattle.window.specs.Window.{window_of}
-use Rattle.session.specs.declared.Head.{Head}
-use Rattle.shown.specs.Ahead.{is_ready}
 use Rattle.shown.proofs.Front.{ahead_stops, ahead_full}
 use Rattle.shown.proofs.run_ahead.Goals as goal
 
@@ -26,12 +16,11 @@ returns-then-not-is_ready c =
     (sym (c.is_ready.ensures h ring e) ∙ c.if-not-is_ready.true))
 
 pub loop-distance-preserved : goal.loop-distance-preserved
-loop-distance-preserved c =
-    (
-      omega arith,
-      below_more _ _ c.loop-distance.invariant.1
-          (λ h ring e. sym (c.is_ready.ensures h ring e) ∙ c.if-not-is_ready.false),
-    )
+loop-distance-preserved c = (
+  omega arith,
+  below_more _ _ c.loop-distance.invariant.1
+      (λ h ring e. sym (c.is_ready.ensures h ring e) ∙ c.if-not-is_ready.false),
+)
 
 pub returns : goal.returns
 returns c =

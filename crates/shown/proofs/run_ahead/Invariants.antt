@@ -1,17 +1,12 @@
 use Prim.Native.Nat.{ℕ, ◌+◌, ◌≤◌, ◌<◌, ◌-◌}
-use mathlib.Core.Path.{◌≡◌, sym, ◌∙◌}
+use mathlib.Core.Path.{◌≡◌}
 use mathlib.Core.Bool.{true}
 use mathlib.Core.List.{List}
-use native.Mathlib.Omega.{arith}
-use borrow.Author.Rules.{rules}
-use borrow.Author.Tests.{not-true, not-false}
-use borrow.Author.Count.{below_more}
 use Rattle.peer.specs.Cells.{window}
 use Rattle.params.specs.Params.{roster_of}
 use Rattle.window.specs.Window.{window_of}
 use Rattle.session.specs.declared.Head.{Head}
 use Rattle.shown.specs.Ahead.{is_ready}
-use Rattle.shown.proofs.Front.{ahead_stops, ahead_full}
 use Rattle.shown.proofs.run_ahead.Given as goal
 
 abbrev pub invariant-loop-distance : goal.invariant-loop-distance

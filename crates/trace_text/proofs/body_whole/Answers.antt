@@ -1,7 +1,6 @@
 -- `trace_text::body_whole` meets its contract. Assumes nothing.
 use Prim.Native.Nat.{◌^◌, ◌<◌}
 use native.Mathlib.Omega.{arith}
-use borrow.Author.Rules.{rules}
 use Rattle.text.proofs.Writing.{put-join, join-length}
 use Rattle.trace_text.specs.Trace.{body_whole}
 use Rattle.trace_text.proofs.Laws.{spaced_short}
@@ -25,12 +24,15 @@ sized c = (omega arith, omega arith, omega arith)
 pub returns-in-Digest : goal.returns-in-Digest
 unfolding body_whole
 returns-in-Digest c =
-    let n = sized (goal.at.returns-in-Digest c).In-Digest in record { writes = rw (c.in-Digest.is, put-join, ← c.spaced-tick.ensures, ← c.spaced-state.ensures) c.spaced.ensures; within = rw (c.in-Digest.is, join-length) (omega (
+    let n = sized (goal.at.returns-in-Digest c).In-Digest in record {
+      writes = rw (c.in-Digest.is, put-join, ← c.spaced-tick.ensures, ← c.spaced-state.ensures) c.spaced.ensures;
+      within = rw (c.in-Digest.is, join-length) (omega (
         arith,
         spaced_short c.in-Digest.b.tick n.0,
         spaced_short c.in-Digest.b.state n.1,
         spaced_short c.in-Digest.b.input n.2,
-      )) }
+      ));
+    }
 
 pub returns-in-Bye : goal.returns-in-Bye
 unfolding body_whole

@@ -11,14 +11,16 @@ pub returns : goal.returns
 unfolding counters_text
 returns c =
     let s = c.args.s in
-    record { writes = rw (
+    record {
+      writes = rw (
         put-join,
         ← c.decimal-end.ensures,
         ← c.spaced-end.ensures,
         ← c.spaced-end-2.ensures,
         ← c.spaced-end-3.ensures,
         ← c.spaced-end-4.ensures,
-      ) c.spaced.ensures; within = rw join-length (omega (
+      ) c.spaced.ensures;
+      within = rw join-length (omega (
         arith,
         decimal_20 s.datagrams_refused (search rules),
         spaced_short s.frames_repeated (search rules),
@@ -26,4 +28,5 @@ returns c =
         spaced_short s.frames_out_of_window (search rules),
         spaced_short s.digests_contradicted (search rules),
         spaced_short s.stall_pumps (search rules),
-      )) }
+      ));
+    }

@@ -10,7 +10,8 @@ pub returns : goal.returns
 unfolding hello_whole
 returns c =
     let b = c.args.b in
-    record { writes = rw (
+    record {
+      writes = rw (
         put-join,
         ← c.spaced-end.ensures,
         ← c.spaced-end-2.ensures,
@@ -19,7 +20,8 @@ returns c =
         ← rw c.long.ensures at c.spaced-end-5.ensures,
         ← rw c.long-2.ensures at c.spaced-end-6.ensures,
         ← rw c.long-3.ensures at c.spaced-end-7.ensures,
-      ) (rw c.long-4.ensures at c.spaced.ensures); within = rw join-length (omega (
+      ) (rw c.long-4.ensures at c.spaced.ensures);
+      within = rw join-length (omega (
         arith,
         spaced_short b.agreement (search rules),
         spaced_short b.content (search rules),
@@ -29,4 +31,5 @@ returns c =
         spaced_short b.width (search rules),
         spaced_short b.delay (search rules),
         spaced_short b.period (search rules),
-      )) }
+      ));
+    }

@@ -30,16 +30,19 @@ returns c =
     let long = run_long (goal.at.returns c).Start in
     let n : c.run_size-n.result ≡ min (b.count * b.width) (length run) = rw long c.run_size-n.ensures in
     let head : take c.run_size-n.result run ≡ take (b.count * b.width) run = rw (n, take_min) in
-    let few : length (take (b.count * b.width) run) ≤ 128 = rw length-take (omega arith) in record { writes = rw (
+    let few : length (take (b.count * b.width) run) ≤ 128 = rw length-take (omega arith) in record {
+      writes = rw (
         put-join,
         ← c.spaced-end.ensures,
         ← rw c.long.ensures at c.spaced-end-2.ensures,
         ← rw c.long-2.ensures at c.spaced-end-3.ensures,
         ← c.byte-end.ensures,
         ← head,
-      ) c.hex_bytes.ensures; within = rw (join-length, hex_bytes_length) (omega (
+      ) c.hex_bytes.ensures;
+      within = rw (join-length, hex_bytes_length) (omega (
         arith,
         spaced_short b.first (search rules),
         spaced_short b.count (search rules),
         spaced_short b.width (search rules),
-      )) }
+      ));
+    }

@@ -11,9 +11,12 @@ pub returns : goal.returns
 unfolding message_whole
 returns c =
     let m = c.args.m in
-    record { writes = rw (
+    record {
+      writes = rw (
         put-join,
         ← rw c.long.ensures at c.decimal-sender.ensures,
         ← c.spaced-session.ensures,
-      ) c.body_whole.ensures.writes; within = rw join-length (omega
-          (arith, c.body_whole.ensures.within, decimal_20 m.sender (search rules), spaced_short m.session (search rules))) }
+      ) c.body_whole.ensures.writes;
+      within = rw join-length (omega
+          (arith, c.body_whole.ensures.within, decimal_20 m.sender (search rules), spaced_short m.session (search rules)));
+    }

@@ -1,6 +1,5 @@
 -- `trace_text::run_size` meets its contract. Assumes nothing.
 use native.Mathlib.Omega.{arith}
-use borrow.Author.Rules.{rules}
 use Rattle.logic.proofs.Products.{mul_lt_pow}
 use Rattle.trace_text.proofs.run_size.Goals as goal
 

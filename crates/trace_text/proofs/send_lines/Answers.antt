@@ -1,7 +1,6 @@
 -- `trace_text::send_lines` meets its contract. Assumes nothing.
 use mathlib.Core.List.{append-nil}
 use native.Mathlib.Omega.{arith}
-use borrow.Author.Rules.{rules}
 use lib.ListN.{length-append}
 use Rattle.logic.specs.Test.{when◌then◌else◌}
 use Rattle.text.proofs.Writing.{put-append}

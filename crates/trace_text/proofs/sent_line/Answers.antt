@@ -1,6 +1,5 @@
 -- `trace_text::sent_line` meets its contract. Assumes nothing.
 use native.Mathlib.Omega.{arith}
-use borrow.Author.Rules.{rules}
 use Rattle.text.proofs.Writing.{put-join, join-length}
 use Rattle.trace_text.specs.Trace.{sent_line}
 use Rattle.trace_text.proofs.sent_line.Goals as goal

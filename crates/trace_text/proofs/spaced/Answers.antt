@@ -1,5 +1,4 @@
 -- `trace_text::spaced` meets its contract. Assumes nothing.
-use borrow.Author.Rules.{rules}
 use Rattle.text.proofs.Writing.{put-join}
 use Rattle.trace_text.specs.Trace.{spaced}
 use Rattle.trace_text.proofs.spaced.Goals as goal

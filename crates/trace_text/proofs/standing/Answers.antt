@@ -1,6 +1,5 @@
 -- `trace_text::standing` meets its contract. Assumes nothing.
 use native.Mathlib.Omega.{arith}
-use borrow.Author.Rules.{rules}
 use Rattle.trace_text.specs.Trace.{standing_text}
 use Rattle.trace_text.proofs.standing.Goals as goal
 

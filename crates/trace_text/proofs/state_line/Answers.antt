@@ -1,7 +1,6 @@
 -- `trace_text::state_line` meets its contract. Assumes nothing.
 use Prim.Native.Nat.{◌^◌, ◌<◌}
 use native.Mathlib.Omega.{arith}
-use borrow.Author.Rules.{rules}
 use Rattle.text.proofs.Writing.{put-join, join-length}
 use Rattle.lines.proofs.Laws.{flag_one}
 use Rattle.trace_text.specs.Trace.{state_line}
@@ -17,7 +16,8 @@ pub returns : goal.returns
 unfolding state_line
 returns c =
     let a = c.args in
-    let n = sized (goal.at.returns c).Start in record { writes = rw (
+    let n = sized (goal.at.returns c).Start in record {
+      writes = rw (
         put-join,
         ← c.piece-end.ensures,
         ← c.counters-end.ensures.writes,
@@ -30,11 +30,13 @@ returns c =
         ← c.spaced-end-3.ensures,
         ← c.byte-end-3.ensures,
         ← c.standing-end.ensures.writes,
-      ) c.byte.ensures; within = rw (join-length, flag_one a.playing, flag_one a.wants) (omega (
+      ) c.byte.ensures;
+      within = rw (join-length, flag_one a.playing, flag_one a.wants) (omega (
         arith,
         c.counters-end.ensures.within,
         c.standing-end.ensures.within,
         spaced_short a.pending n.0,
         spaced_short a.next n.1,
         spaced_short a.digest n.2,
-      )) }
+      ));
+    }
