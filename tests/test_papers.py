@@ -77,6 +77,8 @@ class Rules(unittest.TestCase):
         for at, cell in cells():
             for file in re.findall(r"(?<![\w/])((?:docs|tools|tests|oracle)/[\w.-]+)", cell):
                 self.assertTrue((TOP / file.rstrip(".")).exists(), f"line {at}: {file}")
+            for file in re.findall(r"(?<![\w/])([a-z_]+/(?:specs|proofs|src)/[\w/+-]+\.(?:antt|rt))", cell):
+                self.assertTrue((TOP / "crates" / file).is_file(), f"line {at}: {file}")
 
 
 class Parts(unittest.TestCase):

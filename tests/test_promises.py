@@ -11,8 +11,8 @@ import tool
 
 promises = tool.load("promises")
 
-ASKS = "requires { ⌜ x < 9 ⌝ }"
-GIVES = "ensures { λ r. ⌜ r ≡ x ⌝ }"
+ASKS = "requires { x < 9 }"
+GIVES = "ensures { result ≡ x }"
 
 BARE = "pub fn bare(x: u8) -> u8 {\n    x\n}\n\n"
 GIVING = f"pub fn giving(x: u8) -> u8\n    {GIVES}\n{{\n    x\n}}\n\n"
@@ -69,32 +69,39 @@ class Heads(unittest.TestCase):
         self.has([GIVES], f"pub fn f(x: [u8; {{4}}]) -> [u8; {{4}}]\n    {GIVES}\n{{")
 
     def test_a_clause_with_braces_in_it(self):
-        clause = "ensures { λ r. ⌜ r ≡ record { a = x; b = g {n = 2} x } ⌝ }"
+        clause = "ensures { result ≡ record { a = x; b = g {n = 2} x } }"
         self.has([clause], f"pub fn f(x: u8) -> Pair\n    {clause}\n{{")
         self.has([clause, GIVES], f"pub fn f(x: u8) -> Pair\n    {clause}\n    {GIVES}\n{{")
 
     def test_a_clause_over_several_lines(self):
-        first = ["ensures { λ r. do", "  n ← ⟦x⟧ .entry", "  ⌜ r ≡ record {", "    a = n", "  } ⌝", "}"]
-        second = ["ensures", "{", "    λ r. ⌜ r ≡ x ⌝", "}"]
+        first = ["ensures { let n = x + 1 in", "    result ≡ record {", "        a = n", "    } }"]
+        second = ["ensures", "{", "    result ≡ x", "}"]
         written = "\n".join(f"    {line}" for line in first + second)
         self.has(["\n".join(first), "\n".join(second)], f"pub fn f(x: u8) -> Pair\n{written}\n{{")
 
     def test_named_clauses(self):
-        named = ["ensures within { λ r. ⌜ r ≤ x ⌝ }", "ensures found { λ r. ⌜ r ≡ x ⌝ }"]
-        self.has(named, f"pub fn f(x: u8) -> u8\n    {named[0]}\n    {named[1]}\n{{")
+        named = ["requires low { 1 ≤ x }", "requires high { x < 9 }", "ensures within { result ≤ x }",
+                 "ensures found { result ≡ x }"]
+        written = "\n".join(f"    {clause}" for clause in named)
+        self.has(named, f"pub fn f(x: u8) -> u8\n{written}\n{{")
+
+    def test_clauses_of_memory(self):
+        for clause in "requires* { x ∗ y }", "ensures* { x ∗ ⌜ result ≡ y ⌝ }", "ensures* kept { x }":
+            self.has([clause, GIVES], f"pub fn f(x: u8) -> u8\n    {clause}\n    {GIVES}\n{{")
 
     def test_a_ghost_value(self):
-        self.has(["ghost { ℕ }", GIVES], f"pub fn f(x: u8) -> u8\n    ghost {{ ℕ }}\n    {GIVES}\n{{")
+        self.has(["ghost top: { ℕ }", GIVES], f"pub fn f(x: u8) -> u8\n    ghost top: {{ ℕ }}\n    {GIVES}\n{{")
 
     def test_code_in_a_clause(self):
-        for code in "Pair { a: x }.a", "b'}'", 'b"}{{"[0]':
-            clause = f"ensures {{ λ r. do v ← ⟦{code}⟧ .entry; ⌜ r ≡ v ⌝ }}"
+        sizes = "<[u8; {4}] as Ord>", "<[u8; b'}' as usize] as Ord>", '<[u8; b"}{{".len()] as Ord>'
+        for code in *sizes, "<Set<'a> as Ord>":
+            clause = f"ensures {{ result ≡ ⟦{code}⟧.cmp x x }}"
             self.has([clause], f"pub fn f(x: u8) -> u8\n    {clause}\n{{")
 
     def test_comments_and_texts_in_a_clause(self):
         comments = "-- a } brace\n", "--}\n", '-- a " quote\n', "{- a } brace -}", "{- a } {- { -} brace } -}"
-        for said in *comments, '∗ of "}" x', "∗ one--two x", "∗ x' + b' + y'", "∗ x // {n} y":
-            clause = f"ensures {{ λ r. ⌜ r ≡ x ⌝ {said}}}"
+        for said in *comments, '+ codes "}" x', "+ one--two x", "+ x' + b' + y'", "+ x // {n} y":
+            clause = f"ensures {{ result ≡ x {said}}}"
             self.has([clause], f"pub fn f(x: u8) -> u8\n    {clause}\n{{")
 
     def test_comments_in_a_head(self):
@@ -109,12 +116,13 @@ class Heads(unittest.TestCase):
         for text in ("// a { brace, and /* no comment", "/* } /* } */ } */",
                      "if x == 1 {\n        return S { a: 1 };\n    }",
                      'let a = b"} pub fn g() {\\" }";', 'let a = br#"" }"#;', 'let a = br"\\"; // "',
-                     "let a = [b'}', b'\\'', b'\"', b'\\x7b'];"):
+                     "let a = [b'}', b'\\'', b'\"', b'\\x7b'];", "let a = ['}', '\\'', '\"', '\\u{7b}'];",
+                     'println!(rt; "\\"{a}\\" }}")?;', "let a: &'a [&'b u8] = g::<'a, 'b>();"):
             self.has([], f"pub fn f(x: u8) -> u8 {{\n    {text}")
 
     def test_exported_functions(self):
-        self.has([], '#[no_mangle]\npub extern "C" fn f(x: u8) -> u8 {')
-        self.has([GIVES], f'#[no_mangle]\npub extern "C" fn f(x: u8) -> u8\n    {GIVES}\n{{')
+        self.has([], '#[unsafe(no_mangle)]\npub extern "C" fn f(x: u8) -> u8 {')
+        self.has([GIVES], f'#[unsafe(no_mangle)]\npub extern "C" fn f(x: u8) -> u8\n    {GIVES}\n{{')
         self.has([], "pub const fn f(x: u8) -> u8 {")
 
     def test_only_what_other_crates_can_call_counts(self):
@@ -138,7 +146,9 @@ class Heads(unittest.TestCase):
             self.assertEqual(contracts(BARE, f"src/{file}.rt"), {f"box::{module}bare": []}, file)
 
     def test_what_stands_between_functions(self):
-        for item in ("ghost use Prim.Native.Nat.{_//_, _≤_, b'};", "use a::{b, c};", "mod sets;",
+        for item in ("#![tactic(auto)]", "ghost use Rattle.std.specs.Prelude.{◌//◌, ◌≤◌, b'};", "use a::{b, c};",
+                     "mod sets;", "#[tactic(auto, using(crate::proofs::Laws::one), unfolding(crate::specs::Set::of))]",
+                     "#[derive(Clone, Copy)]",
                      "const S: Set = Set { a: [0; 4] };", "pub struct Pair(pub [u8; 4], u8);",
                      "pub enum E { A { x: u8 }, B }", "#[repr(C)]\npub struct Two {\n    pub a: [u8; 2],\n}"):
             self.has([], f"{item}\npub fn f() {{")
@@ -146,7 +156,7 @@ class Heads(unittest.TestCase):
                          {"box::c": [], "box::bare": [], "box::giving": [GIVES]})
 
     def test_a_text_that_ends_too_soon(self):
-        for text in ("pub fn f() {", "pub fn f()\n    ensures { λ r. ⌜ r ≡ x ⌝\n{\n}\n", "impl Set {\n", "pub fn f()",
+        for text in ("pub fn f() {", "pub fn f()\n    ensures { result ≡ x\n{\n}\n", "impl Set {\n", "pub fn f()",
                      "/* ", "}\n"):
             with self.assertRaisesRegex(ValueError, "box/src/lib.rt: line [12]: "):
                 contracts(text)
@@ -215,7 +225,7 @@ class Exceptions(unittest.TestCase):
         self.fails(asks, source=ONLY_ASKING + GIVING, nothing=["only_asking"])
 
     def test_a_ghost_value_is_no_promise(self):
-        source = "pub fn f(x: u8) -> u8\n    ghost { ℕ }\n{\n    x\n}\n"
+        source = "pub fn f(x: u8) -> u8\n    ghost top: { ℕ }\n{\n    x\n}\n"
         self.fails("f has no `ensures`, and docs/PROMISES.md does not say why", source=source)
 
     def test_an_exception_that_nothing_needs(self):
@@ -241,7 +251,7 @@ class Exceptions(unittest.TestCase):
                    "bare has no `ensures`, and docs/PROMISES.md does not say why", source=BARE + GIVING, world=["bare"])
 
     def test_the_list_has_every_clause_whole(self):
-        clause = ["ensures { λ r. do", "  ⌜ r ≡ record { a = x } ⌝", "}"]
+        clause = ["ensures { let n = x in", "    result ≡ record { a = n } }"]
         head = "\n".join(["impl Set {", "    pub fn f(x: u8) -> u8", *(f"        {line}" for line in clause)])
         listing = ["box::Set::f", *(f"    {line}" for line in clause), "box::bare", "box::giving", f"    {GIVES}", ""]
         given = self.run_on(f"{head}\n    {{\n        x\n    }}\n}}\n{BARE}{GIVING}", ["--list"], nothing=["bare"])

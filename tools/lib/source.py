@@ -8,10 +8,10 @@ import pathlib
 import re
 from typing import NamedTuple
 
-# A byte text, raw or not, a byte, a word or a single mark, behind spaces and comments. `/*` is a mark here, since such
-# comments nest.
+# A text, raw or not, a character, a word or a single mark, behind spaces and comments. A lifetime has no second quote.
+# `/*` is a mark here, since such comments nest.
 TOKEN = re.compile(r"""(?:\s|//[^\n]*)*
-    (/\*|b?r(?P<fence>\#*)".*?"(?P=fence)|b?"(?:\\.|[^"\\])*"|b'(?:\\.[^']*|[^'\\])'|\w+|.)?""", re.S | re.X)
+    (/\*|b?r(?P<fence>\#*)".*?"(?P=fence)|b?"(?:\\.|[^"\\])*"|b?'(?:\\.[^']*|[^'\\])'|\w+|.)?""", re.S | re.X)
 # What counts in a clause, whose text is antt's: its comments and texts, its braces, and where code stands in it. A `--`
 # within a name begins no comment.
 IN_CLAUSE = re.compile(r"""(?<![^\s(){}])--[^\n]*|\{-|"(?:\\.|[^"\\])*"|[{}⟦]""")

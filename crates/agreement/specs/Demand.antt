@@ -6,7 +6,7 @@
 -- nothing.
 use Rattle.std.specs.Prelude.{ℕ, suc, ◌<◌, ◌≡◌, false, ◌≢◌, eqb, get_or, take}
 use mathlib.Core.List.{List, [], ◌∷◌, Memᴰ}
-use Rattle.logic.specs.Test.{if◌then◌else◌}
+use Rattle.logic.specs.Test.{when◌then◌else◌}
 use Rattle.logic.specs.Saturating.{most}
 use Rattle.params.specs.Params.{bad_state}
 use Rattle.params.specs.declared.SessionParams.{SessionParams}
@@ -27,7 +27,7 @@ Valid p = (i : ℕ) → i < p.count → bad_state (seated p i) ≡ false
 -- how many presses of seat i were accepted
 unfoldable pub presses : List Event → ℕ → ℕ
 presses [] i = 0
-presses (pressed k tick bytes ∷ log) i = if eqb k i then suc (presses log i) else presses log i
+presses (pressed k tick bytes ∷ log) i = when eqb k i then suc (presses log i) else presses log i
 presses (stepped k tick rows digest ∷ log) i = presses log i
 presses (committed k tick state ∷ log) i = presses log i
 

@@ -4,7 +4,7 @@
 use Rattle.std.specs.Prelude.{ℕ, ◌*◌, List, [], ◌∷◌, ◌++◌, eqb, ltb, take}
 use Rattle.std.proofs.Math.Option.{Option, none, some}
 use Rattle.std.proofs.Math.ListN.{get_elem?}
-use Rattle.logic.specs.Test.{if◌then◌else◌}
+use Rattle.logic.specs.Test.{when◌then◌else◌}
 use Rattle.params.specs.declared.SessionParams.{SessionParams}
 use Rattle.wire.specs.declared.Body.{Body}
 use Rattle.wire.specs.declared.Body.TheVariants as Body'
@@ -162,14 +162,14 @@ seat_of (pumps i) = i
 seat_of (asks i) = i
 
 unfoldable pub update : (ℕ → Session) → ℕ → Session → ℕ → Session
-update f i s j = if eqb j i then s else f j
+update f i s j = when eqb j i then s else f j
 
 unfoldable pub after : World → ℕ → Turn → World
 after w i t = record { at = update w.at i t.session; mail = t.sends ++ w.mail; log = t.shows ++ w.log }
 
 -- a call on a seat that is none of the circle's does nothing
 unfoldable pub play : SessionParams → World → Call → World
-play p w c = if ltb (seat_of c) p.count then after w (seat_of c) (turn w c) else w
+play p w c = when ltb (seat_of c) p.count then after w (seat_of c) (turn w c) else w
 
 -- fresh sessions as `open` makes them; the last call stands first in the list
 unfoldable pub run : SessionParams → List Call → World

@@ -1,7 +1,7 @@
 -- Document 01, the order of a delivery's answers and what each changes: 20 first; then a standing outcome, 1, even for
 -- a malformed record, with nothing changed; then 21 to 31 in the table's order. Assumes nothing.
 use Rattle.std.specs.Prelude.{ℕ, Bool, not, List, eqb}
-use Rattle.logic.specs.Test.{if◌then◌else◌}
+use Rattle.logic.specs.Test.{when◌then◌else◌}
 use Rattle.peer.specs.Seats.{seats, has, adding}
 use Rattle.params.specs.Params.{bad_state, roster_of, remotes_of, agreement_of}
 use Rattle.wire.specs.Wire.{form_of}
@@ -71,7 +71,7 @@ greeted h sender = with_marks h (record {
 -- 26 another agreement number; else the sender's Hello is in
 unfoldable pub accept_hello : Head → ℕ → HelloBody → HeadDelivered
 accept_hello h sender b =
-    if eqb b.agreement (agreement_of h.params)
+    when eqb b.agreement (agreement_of h.params)
     then answered (started (greeted h sender)) Accepted
     else refused h (Disagreement b.agreement (agreement_of h.params))
 
@@ -86,7 +86,7 @@ marked h sender = with_marks h (record {
 -- only the last note counts: with nothing written it is the answer; otherwise the answer is 0 and the counters still
 -- rise
 unfoldable pub note_answer : HeadDelivered → Bool → HeadDelivered
-note_answer r wrote = if wrote then answered r.head Accepted else r
+note_answer r wrote = when wrote then answered r.head Accepted else r
 
 unfoldable pub noted : Head → Note → Bool → HeadDelivered
 noted h Note'.Nothing wrote = answered h Accepted
@@ -110,7 +110,7 @@ frames_taken s a =
 -- 29 comes before any frame
 unfoldable pub absorb : Session → ℕ → InputsBody → List ℕ → Delivered
 absorb s sender i run =
-    if eqb i.width s.head.params.width
+    when eqb i.width s.head.params.width
     then
     frames_taken s
     (absorb_inputs s.window s.head.stats.frames_repeated s.head.play.pending sender i run)
@@ -124,7 +124,7 @@ print_of d = record { tick = d.tick; state = d.state; input = d.input }
 -- judged upon a newly stored Digest: a difference ends the session
 unfoldable pub judged : Session → ℕ → Delivered
 judged s tick =
-    if parted s.prints (remotes_of s.head.params) tick
+    when parted s.prints (remotes_of s.head.params) tick
     then heard s (end_with s.head (Desynced tick))
     else delivered s Accepted
 
@@ -157,10 +157,10 @@ accept s sender (Body'.Other kind) run = refuse s (NotSessionTraffic kind)
 -- 22 to 25
 unfoldable pub from_header : Session → ℕ → Message → List ℕ → Delivered
 from_header s source m run =
-    if not (eqb m.session s.head.params.session) then refuse s (WrongSession m.session)
-    else if not (eqb m.sender source) then refuse s (SenderNotSource m.sender source)
-    else if eqb m.sender s.head.params.local then refuse s FromSelf
-    else if not (has (roster_of s.head.params) m.sender) then refuse s (NotInRoster m.sender)
+    when not (eqb m.session s.head.params.session) then refuse s (WrongSession m.session)
+    else when not (eqb m.sender source) then refuse s (SenderNotSource m.sender source)
+    else when eqb m.sender s.head.params.local then refuse s FromSelf
+    else when not (has (roster_of s.head.params) m.sender) then refuse s (NotInRoster m.sender)
     else accept s m.sender m.body run
 
 -- 21
@@ -174,4 +174,4 @@ deliver_by s source m run Open = deliver_form s source m run (form_of m run)
 
 unfoldable pub deliver : Session → ℕ → Message → List ℕ → Delivered
 deliver s source m run =
-    if bad_state s.head.params then delivered s BadState else deliver_by s source m run s.head.outcome
+    when bad_state s.head.params then delivered s BadState else deliver_by s source m run s.head.outcome

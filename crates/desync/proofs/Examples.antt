@@ -4,7 +4,7 @@ use Prim.Native.Nat.{ℕ}
 use mathlib.Core.Path.{◌≡◌, refl}
 use mathlib.Core.List.{List, [], ◌∷◌}
 use lib.ListN.{replicate}
-use Rattle.logic.specs.Test.{if◌then◌else◌}
+use Rattle.logic.specs.Test.{when◌then◌else◌}
 use Rattle.peer.specs.Seats.{has, set_of, every, tally, first_seats, removing, is_empty, seat_count}
 use Rattle.fingerprint.specs.declared.LastAgreed.TheVariants.{At}
 use Rattle.text.specs.Ascii.{ascii}
@@ -63,7 +63,7 @@ whole : report_text four
     ∷ [])
 unfolding four report_text head_text verdict_text own_text lists_text agreed_text stats_text flag_text digest_text seat_digest
     tick_text comma seat_list peer_text peer_list others_of differs dissenters_of inputs_agree is_witnessed has set_of every
-    tally first_seats removing is_empty seat_count digits decimal hex_digit hex_digits join if◌then◌else◌
+    tally first_seats removing is_empty seat_count digits decimal hex_digit hex_digits join when◌then◌else◌
 whole = refl
 
 -- a text of four bytes in buffers of three, four and five
@@ -71,12 +71,12 @@ room : ℕ → WriteReport
 room n = write_answer (ascii "text") (replicate n 0) (Desynced 30)
 
 answers : room 3 ∷ room 4 ∷ room 5 ∷ [] ≡ NoRoom ∷ Written 4 ∷ Written 4 ∷ []
-unfolding room write_answer copy_answer if◌then◌else◌
+unfolding room write_answer copy_answer when◌then◌else◌
 answers = refl
 
 left : ℕ → List ℕ
 left n = write_into (ascii "text") (replicate n 1) (Desynced 30)
 
 lent : left 3 ∷ left 5 ∷ [] ≡ (1 ∷ 1 ∷ 1 ∷ []) ∷ (116 ∷ 101 ∷ 120 ∷ 116 ∷ 1 ∷ []) ∷ []
-unfolding left write_into copy_into if◌then◌else◌
+unfolding left write_into copy_into when◌then◌else◌
 lent = refl

@@ -1,7 +1,7 @@
 -- Document 01, numbers 20, 61 and 62: 20 before anything else; 61 no desync; "62 exactly when the lent buffer is
 -- shorter than the text. Bytes past the text keep their values." Refusals change nothing. Assumes nothing.
 use Rattle.std.specs.Prelude.{ℕ, ◌≡◌, List, replicate}
-use Rattle.logic.specs.Test.{if◌then◌else◌}
+use Rattle.logic.specs.Test.{when◌then◌else◌}
 use Rattle.peer.specs.Seats.{seats}
 use Rattle.params.specs.Params.{bad_state}
 use Rattle.params.specs.declared.SessionParams.{SessionParams}
@@ -36,7 +36,7 @@ parted_at (Over (Outcome'.LeftLocally tick)) = Sought'.NoDesync
 
 -- 20 first
 unfoldable pub sought : SessionParams → Standing → Sought
-sought p standing = if bad_state p then Sought'.BadState else parted_at standing
+sought p standing = when bad_state p then Sought'.BadState else parted_at standing
 
 -- ---- the report
 

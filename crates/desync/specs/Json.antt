@@ -1,7 +1,7 @@
 -- desync.rs, `DesyncReportJson`: the text of a report, to the byte. Document 01: "Text is as desync.rs prints it".
 -- Assumes nothing.
 use Rattle.std.specs.Prelude.{ℕ, zero, suc, ◌+◌, ◌*◌, min, Bool, true, false, List, [], ◌∷◌, get_or}
-use Rattle.logic.specs.Test.{if◌then◌else◌}
+use Rattle.logic.specs.Test.{when◌then◌else◌}
 use Rattle.peer.specs.Seats.{seats, has, seat_count}
 use Rattle.fingerprint.specs.declared.LastAgreed.{LastAgreed}
 use Rattle.fingerprint.specs.declared.LastAgreed.TheVariants.{Never, At}
@@ -32,7 +32,7 @@ digest_text n = join (ascii "\"0x" ∷ hex16 n ∷ ascii "\"" ∷ [])
 
 -- seat k's digest, where it is there
 unfoldable pub seat_digest : (there : ℕ) (numbers : List ℕ) (k : ℕ) → List ℕ
-seat_digest there numbers k = if has there k then digest_text (get_or numbers k 0) else ascii "null"
+seat_digest there numbers k = when has there k then digest_text (get_or numbers k 0) else ascii "null"
 
 unfoldable pub tick_text : LastAgreed → List ℕ
 tick_text (At tick) = decimal tick
@@ -49,7 +49,7 @@ comma (suc position) = ascii ","
 unfoldable pub seat_list : (set k : ℕ) → List ℕ
 seat_list set zero = []
 seat_list set (suc k) =
-    if has set k then join (seat_list set k ∷ comma (seat_count k set) ∷ decimal k ∷ []) else seat_list set k
+    when has set k then join (seat_list set k ∷ comma (seat_count k set) ∷ decimal k ∷ []) else seat_list set k
 
 -- one seat of the circle, whose position is its number
 unfoldable pub peer_text : DesyncReport → ℕ → List ℕ

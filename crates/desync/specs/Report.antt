@@ -2,7 +2,7 @@
 -- only for the tick, and as last agreed the highest own tick below it that no held remote digest denies". And what
 -- desync.rs reads off a report: dissenters, inputs_agree, witnessed. Assumes nothing.
 use Rattle.std.specs.Prelude.{ℕ, Bool, true, false, not, ◌&&◌, List, eqb, get_or}
-use Rattle.logic.specs.Test.{if◌then◌else◌}
+use Rattle.logic.specs.Test.{when◌then◌else◌}
 use Rattle.logic.specs.Tabulate.{tabulate}
 use Rattle.peer.specs.Seats.{seats, has, set_of, every, first_seats, removing, is_empty}
 use Rattle.params.specs.Params.{agreement_of, remotes_of}
@@ -52,7 +52,7 @@ is_held (Holds f) = true
 
 -- what seat k reported for that very tick, if it is a remote
 unfoldable pub heard_from : (remotes : ℕ) → Fingerprints → (tick k : ℕ) → Cell
-heard_from remotes prints tick k = if has remotes k then remote_for prints k tick else Empty
+heard_from remotes prints tick k = when has remotes k then remote_for prints k tick else Empty
 
 -- the same of all seats: which have reported, and their states and inputs, zero where they have not
 unfoldable pub heard_all : (remotes : ℕ) → Fingerprints → (tick : ℕ) → Heard

@@ -340,9 +340,9 @@ fn seat_digest(
 }
 
 fn last_tick(out: &mut [u8; text::LIMIT], at: usize, name: &[u8], last: LastAgreed) -> usize
-    ensures result_after { page out.new result
+    ensures writes { page out.new result
         ≡ put (put (page out.old at) name.now) (tick_text last) }
-    ensures last_len_bound { length (tick_text last) ≤ 20 }
+    ensures tick_within_20 { length (tick_text last) ≤ 20 }
 {
     match last {
         LastAgreed::At(tick) => number(out, at, name, tick),
@@ -445,8 +445,8 @@ impl DesyncReport {
     }
 
     fn own(self, out: &mut [u8; text::LIMIT], at: usize) -> usize
-        ensures result_after { page out.new result ≡ put (page out.old at) (own_text self) }
-        ensures last_agreed_len_bound { length (tick_text self.last_agreed) ≤ 20 }
+        ensures writes { page out.new result ≡ put (page out.old at) (own_text self) }
+        ensures last_tick_within_20 { length (tick_text self.last_agreed) ≤ 20 }
     {
         let last = self.last_agreed;
         let state = digest(out, at, b",\"local_state_digest\":", self.local_state);
@@ -472,8 +472,8 @@ impl DesyncReport {
 
     // The report's text at the front of a lent buffer, and its length.
     pub fn json(self, out: &mut [u8; text::LIMIT]) -> usize
-        ensures result_after { page out.new result ≡ put (page out.old 0) (report_text self) }
-        ensures self_len_bound { length (report_text self) ≤ report_most }
+        ensures writes { page out.new result ≡ put (page out.old 0) (report_text self) }
+        ensures within_report_most { length (report_text self) ≤ report_most }
     {
         let head = self.head(out, 0);
         let verdict = self.verdict(out, head);

@@ -4,7 +4,7 @@ use mathlib.Core.Path.{◌≡◌, refl}
 use mathlib.Core.Bool.{true, false}
 use mathlib.Core.List.{[], ◌∷◌}
 use Prim.Native.Nat.{ℕ, ◌-◌, ◌^◌}
-use Rattle.logic.specs.Test.{if◌then◌else◌}
+use Rattle.logic.specs.Test.{when◌then◌else◌}
 use Rattle.peer.specs.Seats.{seats, has, every}
 use Rattle.fingerprint.specs.declared.Fingerprint.{Fingerprint}
 use Rattle.fingerprint.specs.declared.Fingerprints.{Fingerprints}
@@ -29,7 +29,7 @@ theirs p seat tick state input = with_remote p seat (print tick state input)
 -- what finding a print computes with, as one name to unfold
 finding : Unit {0}
 unfolding print ours theirs no_prints own remote own_for remote_for of_tick with_own with_remote own_cell remote_cell cell_at
-    stored_at if◌then◌else◌
+    stored_at when◌then◌else◌
 finding = tt
 
 -- a cell as it stands, and for a tick: another tick of the same cell, another cell, another seat, the last seat and one

@@ -7,7 +7,7 @@ use mathlib.Core.Bool.{true, true≢false}
 use native.Mathlib.Omega.{arith}
 use lib.Dec.{ltb}
 use borrow.Author.Tests.{ltb-true, ltb-false, lt-ltb, not-false}
-use Rattle.logic.specs.Test.{if◌then◌else◌}
+use Rattle.logic.specs.Test.{when◌then◌else◌}
 use Rattle.logic.proofs.Cases.{by_test, case_eq}
 use Rattle.peer.specs.Cells.{history}
 use Rattle.fingerprint.specs.declared.Fingerprint.{Fingerprint}
@@ -64,7 +64,7 @@ module _ (p : Fingerprints) (remotes tick : ℕ) where
     pub agreed : Agreed mine
 
   offers : (f : Fingerprint) → Agreed f → offer p remotes tick (Holds f) ≡ At f.tick
-  unfolding offer if◌then◌else◌
+  unfolding offer when◌then◌else◌
   offers f a = rw (lt-ltb f.tick tick a.below, a.undenied)
 
   offered : (c : Cell) (t : ℕ) → offer p remotes tick c ≡ At t → Offered c t

@@ -3,7 +3,7 @@
 -- sixteen cells are the first, then sixteen for each seat. The lists end there, so a seat above the last has no cell:
 -- nothing is found past the end, and nothing is stored there. Assumes nothing.
 use Rattle.std.specs.Prelude.{ℕ, ◌+◌, ◌*◌, Bool, true, false, List, eqb, get_or, set, replicate}
-use Rattle.logic.specs.Test.{if◌then◌else◌}
+use Rattle.logic.specs.Test.{when◌then◌else◌}
 use Rattle.peer.specs.Seats.{seats}
 use Rattle.peer.specs.Cells.{history, digest_slot_of}
 use Rattle.fingerprint.specs.declared.Fingerprint.{Fingerprint}
@@ -41,7 +41,7 @@ no_prints = record {
 
 unfoldable pub cell_at : Fingerprints → ℕ → Cell
 cell_at p c =
-    if get_or p.held c false
+    when get_or p.held c false
     then Holds (record { tick = get_or p.ticks c 0; state = get_or p.states c 0; input = get_or p.inputs c 0 })
     else Empty
 
@@ -71,7 +71,7 @@ with_remote p seat f = stored_at p (remote_cell seat f.tick) f
 -- a cell's print, where it is for that very tick
 unfoldable pub of_tick : ℕ → Cell → Cell
 of_tick tick Empty = Empty
-of_tick tick (Holds f) = if eqb f.tick tick then Holds f else Empty
+of_tick tick (Holds f) = when eqb f.tick tick then Holds f else Empty
 
 unfoldable pub own_for : Fingerprints → ℕ → Cell
 own_for p tick = of_tick tick (own p tick)

@@ -2,7 +2,7 @@
 -- cell holds this tick with other values"; "An equal repeat is accepted unjudged; any other Digest that isn't refused
 -- goes in its sender's cell". Assumes nothing.
 use Rattle.std.specs.Prelude.{ℕ, Bool, true, false, not, ◌&&◌, ◌||◌, eqb}
-use Rattle.logic.specs.Test.{if◌then◌else◌}
+use Rattle.logic.specs.Test.{when◌then◌else◌}
 use Rattle.peer.specs.Seats.{seats, has, every}
 use Rattle.fingerprint.specs.declared.Fingerprint.{Fingerprint}
 use Rattle.fingerprint.specs.declared.Fingerprints.{Fingerprints}
@@ -37,8 +37,8 @@ parted p remotes tick = parted_by p remotes tick (own_for p tick)
 unfoldable pub arrival_by : Fingerprint → Cell → Arrival
 arrival_by print Empty = New
 arrival_by print (Holds f) =
-    if not (eqb f.tick print.tick) then New
-    else if eqb f.state print.state && eqb f.input print.input then Repeated
+    when not (eqb f.tick print.tick) then New
+    else when eqb f.state print.state && eqb f.input print.input then Repeated
     else Contradicted
 
 unfoldable pub arrival : Fingerprints → ℕ → Fingerprint → Arrival

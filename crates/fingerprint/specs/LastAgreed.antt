@@ -2,7 +2,7 @@
 -- counts as agreement". One's own cells are asked as they stand, and the remotes for the very tick that a cell holds.
 -- Assumes nothing.
 use Rattle.std.specs.Prelude.{ℕ, zero, suc, not, ltb}
-use Rattle.logic.specs.Test.{if◌then◌else◌}
+use Rattle.logic.specs.Test.{when◌then◌else◌}
 use Rattle.peer.specs.Cells.{history}
 use Rattle.fingerprint.specs.declared.Fingerprints.{Fingerprints}
 use Rattle.fingerprint.specs.declared.Cell.{Cell}
@@ -16,15 +16,15 @@ use Rattle.fingerprint.specs.Judging.{all_agree}
 unfoldable pub offer : Fingerprints → (remotes tick : ℕ) → Cell → LastAgreed
 offer p remotes tick Empty = Never
 offer p remotes tick (Holds f) =
-    if not (ltb f.tick tick) then Never
-    else if all_agree p remotes f.tick f.state then At f.tick
+    when not (ltb f.tick tick) then Never
+    else when all_agree p remotes f.tick f.state then At f.tick
     else Never
 
 -- the later of two ticks, where there are any
 unfoldable pub higher : LastAgreed → LastAgreed → LastAgreed
 higher Never b = b
 higher (At a) Never = At a
-higher (At a) (At b) = if ltb a b then At b else At a
+higher (At a) (At b) = when ltb a b then At b else At a
 
 -- the highest that the first n cells offer
 unfoldable pub agreed_in : Fingerprints → (remotes tick n : ℕ) → LastAgreed

@@ -1,5 +1,7 @@
 // The lines that the script runner prints, one for each answer. Each goes to the front of a lent buffer, and its length
 // is given back; what is ready goes behind the line that stands. Nothing here reads a session.
+#![tactic(auto)]
+
 ghost use Rattle.std.specs.Prelude.{◌≤◌, ◌*◌, ◌≡◌, length};
 ghost use Rattle.peer.specs.Seats.{seats};
 ghost use Rattle.text.specs.Text.{page, put};
@@ -48,8 +50,8 @@ pub fn flag(out: &mut [u8; text::LIMIT], at: usize, on: bool) -> usize
 
 // Why, seat and tick.
 pub fn outcome(out: &mut [u8; text::LIMIT], at: usize, o: Outcome) -> usize
-    ensures result_after { page out.new result ≡ put (page out.old at) (outcome_text o) }
-    ensures o_len_bound { length (outcome_text o) ≤ 64 }
+    ensures writes { page out.new result ≡ put (page out.old at) (outcome_text o) }
+    ensures within { length (outcome_text o) ≤ 64 }
 {
     match o {
         Outcome::Desynced { tick } => worded(out, at, b"1 - ", tick),
@@ -77,8 +79,8 @@ pub fn open_line(out: &mut [u8; text::LIMIT], answer: Validity) -> usize
 
 // The tick of an accepted press.
 fn accepted(out: &mut [u8; text::LIMIT], at: usize, answer: Submit) -> usize
-    ensures result_after { page out.new result ≡ put (page out.old at) (accepted_text answer) }
-    ensures answer_len_bound { length (accepted_text answer) ≤ 21 }
+    ensures writes { page out.new result ≡ put (page out.old at) (accepted_text answer) }
+    ensures within { length (accepted_text answer) ≤ 21 }
 {
     match answer {
         Submit::Accepted(tick) => worded(out, at, b" ", tick),
@@ -155,8 +157,8 @@ pub fn report_line(out: &mut [u8; text::LIMIT], answer: Sought, report: DesyncRe
 
 // Kind, tick and count.
 fn body(out: &mut [u8; text::LIMIT], at: usize, body: Body) -> usize
-    ensures result_after { page out.new result ≡ put (page out.old at) (body_text body) }
-    ensures body_len_bound { length (body_text body) ≤ 64 }
+    ensures writes { page out.new result ≡ put (page out.old at) (body_text body) }
+    ensures within { length (body_text body) ≤ 64 }
 {
     match body {
         Body::Hello(_) => text::piece(out, at, b"3 0 0"),
@@ -178,7 +180,7 @@ fn body(out: &mut [u8; text::LIMIT], at: usize, body: Body) -> usize
 
 pub fn send_line(out: &mut [u8; text::LIMIT], answer: Outbound) -> usize
     ensures says { Says (send_line answer) out.old out.new result }
-    ensures answer_len_bound { length (send_line answer) ≤ 100 }
+    ensures within { length (send_line answer) ≤ 100 }
 {
     match answer {
         Outbound::Send { peer, message } => {
@@ -195,8 +197,8 @@ pub fn send_line(out: &mut [u8; text::LIMIT], answer: Outbound) -> usize
 
 // The first width bytes of a seat's row.
 fn field(out: &mut [u8; text::LIMIT], at: usize, row: [u8; 16], width: u8) -> usize
-    ensures result_after { page out.new result ≡ put (page out.old at) (field_text width row) }
-    ensures row_len_bound { length (field_text width row) ≤ 33 }
+    ensures writes { page out.new result ≡ put (page out.old at) (field_text width row) }
+    ensures within { length (field_text width row) ≤ 33 }
 {
     let n = least(wide(width), 16);
     let spaced = text::byte(out, at, b' ');
@@ -212,9 +214,9 @@ fn fields(
     count: u8,
     width: u8,
 ) -> usize
-    ensures result_after { page out.new result
+    ensures writes { page out.new result
         ≡ put (put (page out.old at) (flag_text due)) (field_texts count width rows) }
-    ensures rows_len_bound { length (field_texts count width rows) ≤ 33 * seats }
+    ensures within { length (field_texts count width rows) ≤ 33 * seats }
 {
     let n = least(wide(count), rows::ROWS);
     let mut end = flag(out, at, due);
@@ -269,8 +271,8 @@ pub fn advance_line(out: &mut [u8; text::LIMIT], answer: Advance, frames: Frames
 
 // How many ticks are ready, behind the line that stands: `none` where there is no session to ask.
 pub fn ready_line(out: &mut [u8; text::LIMIT], at: usize, answer: Ready) -> usize
-    ensures result_after { page out.new result ≡ put (page out.old at) (ready_line answer) }
-    ensures answer_len_bound { length (ready_line answer) ≤ 27 }
+    ensures writes { page out.new result ≡ put (page out.old at) (ready_line answer) }
+    ensures within { length (ready_line answer) ≤ 27 }
 {
     match answer {
         Ready::Ticks(n) => {

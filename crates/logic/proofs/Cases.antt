@@ -6,25 +6,25 @@ use mathlib.Core.Logic.{◌≢◌}
 use mathlib.Core.Bool.{Bool, true, false, ◌&&◌, ◌||◌, true≢false, false≢true}
 use lib.Dec.{eqb, ltb}
 use borrow.Author.Tests.{eqb-true, eqb-false, ltb-true, ltb-false}
-use Rattle.logic.specs.Test.{if◌then◌else◌}
+use Rattle.logic.specs.Test.{when◌then◌else◌}
 
 -- the case rule: what holds of both arms holds of the whole
 pub by_test {ℓ κ} : {A : Type ℓ} (P : A → Type κ) {b : Bool} {x y : A} → (b ≡ true → P x) → (b ≡ false → P y)
-    → P (if b then x else y)
-unfolding if◌then◌else◌
+    → P (when b then x else y)
+unfolding when◌then◌else◌
 by_test P {b = true} f g = f refl
 by_test P {b = false} f g = g refl
 
-pub if_true {ℓ} : {A : Type ℓ} {b : Bool} (x y : A) → b ≡ true → if b then x else y ≡ x
-unfolding if◌then◌else◌
-if_true x y e = rw (e, if◌then◌else◌)
+pub if_true {ℓ} : {A : Type ℓ} {b : Bool} (x y : A) → b ≡ true → when b then x else y ≡ x
+unfolding when◌then◌else◌
+if_true x y e = rw (e, when◌then◌else◌)
 
-pub if_false {ℓ} : {A : Type ℓ} {b : Bool} (x y : A) → b ≡ false → if b then x else y ≡ y
-unfolding if◌then◌else◌
-if_false x y e = rw (e, if◌then◌else◌)
+pub if_false {ℓ} : {A : Type ℓ} {b : Bool} (x y : A) → b ≡ false → when b then x else y ≡ y
+unfolding when◌then◌else◌
+if_false x y e = rw (e, when◌then◌else◌)
 
-pub if_same {ℓ} : {A : Type ℓ} (b : Bool) (x : A) → if b then x else x ≡ x
-unfolding if◌then◌else◌
+pub if_same {ℓ} : {A : Type ℓ} (b : Bool) (x : A) → when b then x else x ≡ x
+unfolding when◌then◌else◌
 if_same true x = refl
 if_same false x = refl
 

@@ -9,7 +9,7 @@ use native.Mathlib.Omega.{arith}
 use lib.Dec.{eqb, leb}
 use lib.ListN.{get_or}
 use borrow.Author.Tests.{eq-eqb, ne_eqb, le-leb, lt-ltb}
-use Rattle.logic.specs.Test.{if◌then◌else◌}
+use Rattle.logic.specs.Test.{when◌then◌else◌}
 use Rattle.logic.specs.Saturating.{most, raised}
 use Rattle.logic.proofs.Cases.{by_test, if_false, decide, case_eq, and_both}
 use Rattle.peer.specs.Seats.{seats, has, is_subset}
@@ -94,7 +94,7 @@ module _ (s : Session) (fits : s.head.play.pending ≤ most) (good : bad_state s
   rows = step_rows s.head s.window
 
   -- it goes by the frames alone
-  goes : advance_head h held rows ≡ if every_seat h held then take_step h rows else stall h held
+  goes : advance_head h held rows ≡ when every_seat h held then take_step h rows else stall h held
   unfolding advance_head advance_from advance_by play_on is_playing
   goes =
       let both = and_both h.marks.started (not (is_over h.outcome)) playing in
@@ -104,7 +104,7 @@ module _ (s : Session) (fits : s.head.play.pending ≤ most) (good : bad_state s
   abbrev Told : HeadAdvanced → Type 0
   Told r = stalls r.answer ≡ eqb (ahead h s.window) 0
 
-  told : Told (if every_seat h held then take_step h rows else stall h held)
+  told : Told (when every_seat h held then take_step h rows else stall h held)
   unfolding take_step stall ahead readiness
   told =
       by_test Told

@@ -4,7 +4,7 @@ use mathlib.Core.Path.{◌≡◌, refl}
 use mathlib.Core.List.{[], ◌∷◌}
 use Prim.Native.Nat.{ℕ, ◌+◌, ◌-◌}
 use Rattle.peer.specs.Seats.{seats}
-use Rattle.logic.specs.Test.{if◌then◌else◌}
+use Rattle.logic.specs.Test.{when◌then◌else◌}
 use Rattle.logic.specs.Range.{outside}
 use Rattle.params.specs.declared.SessionParams.{SessionParams}
 use Rattle.params.specs.Params.{validity, validity_no}
@@ -44,5 +44,5 @@ limits :
     ∷ 11 ∷ 12 ∷ 13
     ∷ 14 ∷ 15
     ∷ []
-unfolding of check validity outside if◌then◌else◌
+unfolding of check validity outside when◌then◌else◌
 limits = refl

@@ -1,7 +1,7 @@
 -- Document 01, numbers 11 to 16 and 20, and "params.rs: checks, agreement number".
 -- Assumes nothing.
 use Rattle.std.specs.Prelude.{ℕ, Bool, not, List, ◌++◌, eqb, ltb}
-use Rattle.logic.specs.Test.{if◌then◌else◌}
+use Rattle.logic.specs.Test.{when◌then◌else◌}
 use Rattle.logic.specs.Range.{outside}
 use Rattle.hash.specs.Fnv.{start, fnv, le_bytes}
 use Rattle.peer.specs.Seats.{seats, first_seats, removing}
@@ -29,12 +29,12 @@ max_delay = 63
 -- with the values that the Rust's `ParamsError` carries
 unfoldable pub validity : SessionParams → Validity
 validity p =
-    if outside min_peers seats p.count then PeerCount p.count min_peers seats
-    else if not (ltb p.local p.count) then LocalNotInRoster p.local p.count
-    else if outside 1 max_width p.width then InputBytes p.width max_width
-    else if ltb max_delay p.delay then InputDelay p.delay window
-    else if eqb p.period 0 then DigestPeriodZero
-    else if eqb p.session 0 then SessionZero
+    when outside min_peers seats p.count then PeerCount p.count min_peers seats
+    else when not (ltb p.local p.count) then LocalNotInRoster p.local p.count
+    else when outside 1 max_width p.width then InputBytes p.width max_width
+    else when ltb max_delay p.delay then InputDelay p.delay window
+    else when eqb p.period 0 then DigestPeriodZero
+    else when eqb p.session 0 then SessionZero
     else Valid
 
 -- the number of each answer

@@ -10,7 +10,7 @@ use lib.Dec.{ltb}
 use lib.ListN.{get_or, set, replicate, take, drop, get_or-replicate}
 use lib.Seq.{get_or-take, get_or-drop, get_or-set_other, ext_get_or}
 use borrow.Author.Tests.{eqb-false, lt-ltb, eq-eqb, ne_eqb}
-use Rattle.logic.specs.Test.{if◌then◌else◌}
+use Rattle.logic.specs.Test.{when◌then◌else◌}
 use Rattle.logic.specs.Tabulate.{tabulate}
 use Rattle.logic.proofs.Cases.{by_test, case_lt, if_true, if_false}
 use Rattle.logic.proofs.Tabulated.{Filled, filled_none, filled_more, length-tabulate, get_or-tabulate}
@@ -111,7 +111,7 @@ module _ (ring : List ℕ) (seat first count width j : ℕ) (some : 1 ≤ width)
 
   pub run_byte_is :
       get_or ring (frame_start seat (first + j / width) + j % width) 0
-      ≡ if ltb j (count * width)
+      ≡ when ltb j (count * width)
       then get_or (take width (drop (frame_start seat (first + j / width)) ring)) (j % width) 0 else 0
   run_byte_is =
       sym

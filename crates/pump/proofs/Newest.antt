@@ -11,7 +11,7 @@ use lib.Dec.{eqb}
 use lib.ListN.{length, get_or, take, drop, length-take, length-drop}
 use lib.Seq.{get_or-take, get_or-drop, ext_get_or}
 use borrow.Author.Tests.{eqb-true, eqb-false, lt-ltb, le-ltb}
-use Rattle.logic.specs.Test.{if◌then◌else◌}
+use Rattle.logic.specs.Test.{when◌then◌else◌}
 use Rattle.logic.proofs.Cases.{by_test, if_true, if_false}
 use Rattle.logic.proofs.Tabulated.{length-tabulate, get_or-tabulate}
 use Rattle.peer.specs.Seats.{seats}
@@ -41,8 +41,8 @@ use Rattle.pump.proofs.Loops.{span_ticks, carried-le, carried_next}
 use Rattle.pump.proofs.Laws.{told, Pumps, refused, ended, sends, pump_is, message_of}
 
 module _ (w : Window) (seat : ℕ) where
-  span_is : (tick n : ℕ) → span w seat tick (suc n) ≡ if is_held w seat tick
-      then (if eqb tick 0 then 1 else suc (span w seat (tick - 1) n)) else 0
+  span_is : (tick n : ℕ) → span w seat tick (suc n) ≡ when is_held w seat tick
+      then (when eqb tick 0 then 1 else suc (span w seat (tick - 1) n)) else 0
   unfolding span
   span_is tick n = refl
 

@@ -8,7 +8,7 @@
 -- with the newest gone, Inputs is skipped." What carries frames goes by the window too, all else by the head alone.
 -- Assumes nothing.
 use Rattle.std.specs.Prelude.{ℕ, zero, suc, ◌+◌, ◌-◌, ◌*◌, ◌/◌, ◌%◌, min, Bool, true, false, ◌&&◌, List, eqb, ltb, get_or, replicate}
-use Rattle.logic.specs.Test.{if◌then◌else◌}
+use Rattle.logic.specs.Test.{when◌then◌else◌}
 use Rattle.logic.specs.Tabulate.{tabulate}
 use Rattle.peer.specs.Seats.{seats, has, is_subset}
 use Rattle.params.specs.Params.{max_width, bad_state, remotes_of, agreement_of}
@@ -42,7 +42,7 @@ use Rattle.pump.specs.declared.Pumped.{Pumped}
 -- the first of n seats from `place` on that is in the set
 unfoldable pub next_remote : (remotes place n : ℕ) → Target
 next_remote remotes place zero = Nobody
-next_remote remotes place (suc n) = if has remotes place then Seat place else next_remote remotes (place + 1) n
+next_remote remotes place (suc n) = when has remotes place then Seat place else next_remote remotes (place + 1) n
 
 -- the first remote from `place` on
 unfoldable pub target_of : Head → ℕ → Target
@@ -54,15 +54,15 @@ target_of h place = next_remote (remotes_of h.params) place (seats - place)
 unfoldable pub span : Window → (seat tick n : ℕ) → ℕ
 span w seat tick zero = 0
 span w seat tick (suc n) =
-    if is_held w seat tick
-    then (if eqb tick 0 then 1 else suc (span w seat (tick - 1) n))
+    when is_held w seat tick
+    then (when eqb tick 0 then 1 else suc (span w seat (tick - 1) n))
     else 0
 
 -- how many go: none before the first submit, and none with the newest gone
 unfoldable pub carried : Head → Window → ℕ
 carried h w =
     let next = h.play.next_local in
-    if eqb next 0 then 0 else span w h.params.local (next - 1) redundancy
+    when eqb next 0 then 0 else span w h.params.local (next - 1) redundancy
 
 -- the tick of the first of them
 abbrev pub first_tick : Head → Window → ℕ
@@ -79,7 +79,7 @@ no_run = replicate run_bytes 0
 -- zero past the frames
 unfoldable pub run_byte : Window → (seat first count width j : ℕ) → ℕ
 run_byte w seat first count width j =
-    if ltb j (count * width)
+    when ltb j (count * width)
     then get_or (frame_of w seat (first + j / width) width) (j % width) 0
     else 0
 
@@ -107,7 +107,7 @@ hello_of p = record {
 -- with the newest gone, Inputs is skipped
 unfoldable pub inputs_of : Head → Window → Saying
 inputs_of h w =
-    if eqb (carried h w) 0 then Silent
+    when eqb (carried h w) 0 then Silent
     else Says (Body'.Inputs (record { first = first_tick h w; count = carried h w; width = h.params.width }))
 
 -- the digest that is owed
@@ -141,8 +141,8 @@ say h w emit place = say_to h w emit (target_of h place)
 -- after an outcome Bye; Inputs while playing, once every remote's playing mark is set; else Hello
 unfoldable pub first_kind : Head → Emit
 first_kind h =
-    if is_over h.outcome then Bye
-    else if is_playing h && is_subset seats (remotes_of h.params) h.marks.playing then Inputs
+    when is_over h.outcome then Bye
+    else when is_playing h && is_subset seats (remotes_of h.params) h.marks.playing then Inputs
     else Hello
 
 -- an answer with no run
@@ -188,11 +188,11 @@ pump_digest h w place = sent h w Digest (say h w Digest place) (pass_ends h)
 -- then Digest if owed
 unfoldable pub pump_inputs : Head → Window → ℕ → HeadPumped
 pump_inputs h w place =
-    sent h w Inputs (say h w Inputs place) (if is_owed h.owed then pump_digest h w 0 else pass_ends h)
+    sent h w Inputs (say h w Inputs place) (when is_owed h.owed then pump_digest h w 0 else pass_ends h)
 
 -- Inputs while playing: after an outcome a pass goes from Hello to its end
 unfoldable pub pump_hello : Head → Window → ℕ → HeadPumped
-pump_hello h w place = sent h w Hello (say h w Hello place) (if is_playing h then pump_inputs h w 0 else pass_ends h)
+pump_hello h w place = sent h w Hello (say h w Hello place) (when is_playing h then pump_inputs h w 0 else pass_ends h)
 
 unfoldable pub pump_bye : Head → Window → ℕ → HeadPumped
 pump_bye h w place = sent h w Bye (say h w Bye place) (pass_ends h)
@@ -206,7 +206,7 @@ pump_from h w Done = pass_ends h
 
 -- 20 before anything else, with nothing changed
 unfoldable pub pump_head : Head → Window → HeadPumped
-pump_head h w = if bad_state h.params then quiet h BadState else pump_from h w h.pass.kind
+pump_head h w = when bad_state h.params then quiet h BadState else pump_from h w h.pass.kind
 
 -- ---- the call: a pump changes nothing but the head
 

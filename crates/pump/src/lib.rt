@@ -4,7 +4,7 @@
 #![tactic(auto)]
 
 ghost use Rattle.std.specs.Prelude.{◌≡◌, false, List, ℕ, ◌+◌, ◌-◌, ◌*◌, ◌/◌, ◌%◌, ◌<◌, ◌≤◌, min, ltb, get_or, take, drop};
-ghost use Rattle.logic.specs.Test.{if◌then◌else◌};
+ghost use Rattle.logic.specs.Test.{when◌then◌else◌};
 ghost use Rattle.logic.specs.Saturating.{most};
 ghost use Rattle.peer.specs.Seats.{seats};
 ghost use Rattle.params.specs.Params.{max_width, bad_state};

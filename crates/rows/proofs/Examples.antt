@@ -4,7 +4,7 @@ use Prim.Native.Nat.{ℕ, ◌-◌}
 use mathlib.Core.Path.{◌≡◌, refl}
 use mathlib.Core.List.{List, [], ◌∷◌}
 use lib.ListN.{replicate}
-use Rattle.logic.specs.Test.{if◌then◌else◌}
+use Rattle.logic.specs.Test.{when◌then◌else◌}
 use Rattle.logic.specs.Tabulate.{tabulate}
 use Rattle.hash.specs.Fnv.{start, fnv, le_bytes}
 use Rattle.peer.specs.Seats.{seats, has, set_of, adding}
@@ -25,7 +25,7 @@ zeros n = replicate n 0
 
 -- what a step's rows compute with, as one name to unfold
 laying : Unit {0}
-unfolding tabulate has set_of adding fresh_window held_by is_held frame_of written write_frame padded rows_of if◌then◌else◌
+unfolding tabulate has set_of adding fresh_window held_by is_held frame_of written write_frame padded rows_of when◌then◌else◌
 laying = tt
 
 rows_of_r : rows_of case_r 0 2 1 ≡ (0x41 ∷ zeros 15) ∷ (0x42 ∷ zeros 15) ∷ replicate (seats - 2) (zeros 16)

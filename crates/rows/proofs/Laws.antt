@@ -8,7 +8,7 @@ use lib.ListN.{length, get_or, take, length-take, get_or-eq_default}
 use lib.Seq.{get_or-take, get_or-drop, ext_get_or}
 use borrow.Author.Tests.{lt-ltb, le-ltb}
 use lib.Dec.{ltb}
-use Rattle.logic.specs.Test.{if◌then◌else◌}
+use Rattle.logic.specs.Test.{when◌then◌else◌}
 use Rattle.logic.proofs.Cases.{by_test, case_lt, if_true, if_false}
 use Rattle.logic.proofs.Tabulated.{length-tabulate, get_or-tabulate}
 use Rattle.hash.specs.Fnv.{fnv, le_bytes}
@@ -53,7 +53,7 @@ module _ (w : Window) (tick count width : ℕ) where
   length_rows = length-tabulate seats _
 
   pub row_is : (k : ℕ) → k < seats
-      → get_or (rows_of w tick count width) k [] ≡ padded (if ltb k count then frame_of w k tick width else [])
+      → get_or (rows_of w tick count width) k [] ≡ padded (when ltb k count then frame_of w k tick width else [])
   unfolding rows_of
   row_is k l = get_or-tabulate seats _ [] k l
 

@@ -10,7 +10,7 @@ use lib.Dec.{ltb}
 use lib.ListN.{length, get_or, take, drop, length-take, drop_of_length-le, get_or-eq_default}
 use lib.Seq.{drop-cons, get_or-take, get_or-drop}
 use borrow.Author.Tests.{ltb-true, ltb-false}
-use Rattle.logic.specs.Test.{if◌then◌else◌}
+use Rattle.logic.specs.Test.{when◌then◌else◌}
 use Rattle.logic.proofs.Cases.{by_test, case_lt}
 use Rattle.hash.specs.Fnv.{fnv}
 use Rattle.hash.proofs.Laws.{fnv-append}
@@ -18,7 +18,7 @@ use Rattle.rows.specs.Rows.{heads}
 
 -- byte i of the width bytes at `at`, and 0 past them
 pub byte_of : (ring : List ℕ) (at width i : ℕ)
-    → if ltb i width then get_or ring (at + i) 0 else 0 ≡ get_or (take width (drop at ring)) i 0
+    → when ltb i width then get_or ring (at + i) 0 else 0 ≡ get_or (take width (drop at ring)) i 0
 byte_of ring at width i =
     let xs = drop at ring in
     by_test (λ (x : ℕ). x ≡ get_or (take width xs) i 0)
@@ -27,8 +27,8 @@ byte_of ring at width i =
 
 -- a width of 0 gives no bytes
 pub take_if : (on : Bool) (width : ℕ) (xs : List ℕ)
-    → take (if on then width else 0) xs ≡ if on then take width xs else []
-unfolding if◌then◌else◌
+    → take (when on then width else 0) xs ≡ when on then take width xs else []
+unfolding when◌then◌else◌
 take_if true width xs = refl
 take_if false width xs = refl
 

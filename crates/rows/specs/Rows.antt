@@ -1,7 +1,7 @@
 -- Document 01, "Step and commit": a step hashes its tick, then frames by rising seat. Its frames go out as eight rows
 -- of sixteen bytes, by value, zero beyond width and roster. Assumes nothing.
 use Rattle.std.specs.Prelude.{ℕ, zero, suc, List, [], ◌∷◌, ◌++◌, ltb, get_or, take}
-use Rattle.logic.specs.Test.{if◌then◌else◌}
+use Rattle.logic.specs.Test.{when◌then◌else◌}
 use Rattle.logic.specs.Tabulate.{tabulate}
 use Rattle.hash.specs.Fnv.{fnv, le_bytes}
 use Rattle.peer.specs.Seats.{seats}
@@ -16,7 +16,7 @@ padded bytes = tabulate max_width (λ i. get_or bytes i 0)
 
 -- a row for each seat: the frame of a seat of the roster, and no bytes for the others
 unfoldable pub rows_of : Window → (tick count width : ℕ) → List (List ℕ)
-rows_of w tick count width = tabulate seats (λ k. padded (if ltb k count then frame_of w k tick width else []))
+rows_of w tick count width = tabulate seats (λ k. padded (when ltb k count then frame_of w k tick width else []))
 
 -- the frames of the first count seats, by rising seat
 unfoldable pub frames_of : Window → (tick width count : ℕ) → List ℕ

@@ -2,7 +2,7 @@
 #![tactic(auto)]
 
 ghost use Rattle.std.specs.Prelude.{◌≡◌, List, ℕ, ◌+◌, ◌≤◌, take, drop};
-ghost use Rattle.logic.specs.Test.{if◌then◌else◌};
+ghost use Rattle.logic.specs.Test.{when◌then◌else◌};
 ghost use Rattle.hash.specs.Fnv.{fnv};
 ghost use Rattle.params.specs.Params.{max_width};
 ghost use Rattle.window.specs.Window.{ring_bytes, window_of};
@@ -35,7 +35,7 @@ pub fn rows_in(frames: Frames) -> [[u8; 16]; ROWS]
 
 // n where the test holds, else 0.
 fn kept_if(on: bool, n: u8) -> u8
-    ensures { result ≡ if on then n else 0 }
+    ensures { result ≡ when on then n else 0 }
 {
     if on {
         return n;

@@ -2,7 +2,7 @@
 -- Assumes nothing.
 use Rattle.std.specs.Prelude.{ℕ, ◌≤◌, ◌≡◌, Bool, true, false, List, [], ◌++◌, eqb, length}
 use Rattle.text.specs.Text.{text_limit, page, put}
-use Rattle.logic.specs.Test.{if◌then◌else◌}
+use Rattle.logic.specs.Test.{when◌then◌else◌}
 use Rattle.params.specs.Params.{validity, bad_state}
 use Rattle.params.specs.declared.SessionParams.{SessionParams}
 use Rattle.session.specs.Session.{fresh, is_playing}
@@ -40,11 +40,11 @@ no_params =
 
 -- "flag 0 means none given, any other given"
 unfoldable pub world_of : (flag digest : ℕ) → WorldDigest
-world_of flag digest = if eqb flag 0 then Absent else Present digest
+world_of flag digest = when eqb flag 0 then Absent else Present digest
 
 -- a later good open replaces the session, a refused one leaves it
 unfoldable pub run_open : Session → SessionParams → Session
-run_open s p = if bad_state p then s else fresh p
+run_open s p = when bad_state p then s else fresh p
 
 unfoldable pub open_line_of : SessionParams → List ℕ
 open_line_of p = open_line (validity p)
@@ -74,19 +74,19 @@ line_of s Report bytes traced = report_line (desync_report s).answer (desync_rep
 unfoldable pub run_asked : Session → Asked → List ℕ → Session
 run_asked s Bad bytes = s
 run_asked s (Open p) bytes = run_open s p
-run_asked s (Of call) bytes = if bad_state s.head.params then s else next_of s call bytes
+run_asked s (Of call) bytes = when bad_state s.head.params then s else next_of s call bytes
 
 unfoldable pub asked_line : Session → Asked → List ℕ → Bool → List ℕ
 asked_line s Bad bytes traced = bad_line
 asked_line s (Open p) bytes traced = open_line_of p
-asked_line s (Of call) bytes traced = if bad_state s.head.params then none_line else line_of s call bytes traced
+asked_line s (Of call) bytes traced = when bad_state s.head.params then none_line else line_of s call bytes traced
 
 -- ---- one record
 
 -- what the trace form shows of a session, once there is one
 unfoldable pub traced_line : Head → List ℕ
 traced_line h =
-    if bad_state h.params then []
+    when bad_state h.params then []
     else
     state_line h.stats h.play.pending h.play.next_local (is_playing h) (wants_local h) h.play.digest
     h.outcome
@@ -118,4 +118,4 @@ pub record Prints (session : Session) (lines : List ℕ) (after : Session) (befo
 
 -- "A record cut by the end, of any kind, prints `cut`": one of which some bytes are there, and not all
 unfoldable pub end_lines : Session → ℕ → Form → List ℕ
-end_lines s begun form = if eqb begun 0 then [] else cut_line ++ shown_line s form
+end_lines s begun form = when eqb begun 0 then [] else cut_line ++ shown_line s form

@@ -1,7 +1,7 @@
 -- Document 01, "The script runner `circle`": the lines printed for a script, as a definition over its bytes. A record
 -- is run as soon as its last byte is there, so it does not matter in how many pieces the bytes come. Assumes nothing.
 use Rattle.std.specs.Prelude.{ℕ, List, [], ◌∷◌, ◌++◌, eqb, length}
-use Rattle.logic.specs.Test.{if◌then◌else◌}
+use Rattle.logic.specs.Test.{when◌then◌else◌}
 use Rattle.session.specs.Session.{fresh}
 use Rattle.session.specs.declared.Session.{Session}
 use Rattle.script.specs.Records.{record_size}
@@ -18,7 +18,7 @@ pub record Reading : Type 0 where
 -- with these bytes in hand: a whole record is run, and one that is not whole has begun
 unfoldable pub hold : Form → Session → (bytes said : List ℕ) → Reading
 hold form s bytes said =
-    if eqb (record_size bytes) 0
+    when eqb (record_size bytes) 0
     then record { session = s; begun = bytes; said = said }
     else record { session = run_record s bytes; begun = []; said = said ++ record_lines s bytes form }
 

@@ -1,5 +1,7 @@
 // The script runner: one record in, its lines out, and the session that stands after it. The session's arrays and the
 // buffer for the lines are lent. The programs add reading and writing, nothing else.
+#![tactic(auto)]
+
 ghost use Rattle.std.specs.Prelude.{ℕ, ◌≤◌, ◌≡◌, List, length};
 ghost use Rattle.window.specs.Window.{window_of};
 ghost use Rattle.fingerprint.specs.Cells.{prints_of};
@@ -278,8 +280,8 @@ fn run_asked(
 
 // What the trace form shows of a session, once there is one, behind the line that stands.
 fn show_traced(h: Head, out: &mut [u8; text::LIMIT], at: usize) -> usize
-    ensures result_after { page out.new result ≡ put (page out.old at) (traced_line h) }
-    ensures h_len_bound { length (traced_line h) ≤ 400 }
+    ensures writes { page out.new result ≡ put (page out.old at) (traced_line h) }
+    ensures within { length (traced_line h) ≤ 400 }
 {
     if h.params.bad_state() {
         return text::piece(out, at, b"");
@@ -307,10 +309,10 @@ fn show(
     at: usize,
     form: Form,
 ) -> usize
-    ensures by_index { (ring : List ℕ) (p : Fingerprints'.Fingerprints) →
+    ensures writes { (ring : List ℕ) (p : Fingerprints'.Fingerprints) →
         page out.new result ≡ put (page out.old at)
         (shown_line (session_of h (window_of ring ticks.now present.now) p) form) }
-    ensures by_index_2 { (ring : List ℕ) (p : Fingerprints'.Fingerprints) → length
+    ensures within { (ring : List ℕ) (p : Fingerprints'.Fingerprints) → length
         (shown_line (session_of h (window_of ring ticks.now present.now) p) form) ≤ 400 }
 {
     match form {
@@ -375,10 +377,10 @@ pub fn end_lines(
     begun: usize,
     form: Form,
 ) -> usize
-    ensures by_index { (ring : List ℕ) (p : Fingerprints'.Fingerprints) →
+    ensures writes { (ring : List ℕ) (p : Fingerprints'.Fingerprints) →
         page out.new result ≡ put (page out.old 0)
         (end_lines (session_of h (window_of ring ticks.now present.now) p) begun form) }
-    ensures by_index_2 { (ring : List ℕ) (p : Fingerprints'.Fingerprints) → length
+    ensures within { (ring : List ℕ) (p : Fingerprints'.Fingerprints) → length
         (end_lines (session_of h (window_of ring ticks.now present.now) p) begun form)
         ≤ text_limit }
 {

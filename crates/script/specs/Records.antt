@@ -2,7 +2,7 @@
 -- fields are u64, but one byte for seats, the flag and what is u8 in the Rust", and the kinds 1 to 12 with their
 -- payloads. Assumes nothing.
 use Rattle.std.specs.Prelude.{ℕ, zero, suc, ◌+◌, ◌-◌, ◌*◌, min, Bool, true, false, not, ◌&&◌, List, eqb, ltb, leb, length, drop, get_or}
-use Rattle.logic.specs.Test.{if◌then◌else◌}
+use Rattle.logic.specs.Test.{when◌then◌else◌}
 use Rattle.params.specs.declared.SessionParams.{SessionParams}
 use Rattle.wire.specs.declared.Body.{Body}
 use Rattle.wire.specs.declared.Body.TheVariants.{Hello, Inputs, Digest, Bye, Other}
@@ -41,14 +41,14 @@ longest = 65539
 -- how many bytes the first record has, once all of them are there; else 0
 unfoldable pub record_size : List ℕ → ℕ
 record_size bytes =
-    if ltb (length bytes) header then 0
-    else if ltb (length bytes) (header + u16 bytes 0) then 0
+    when ltb (length bytes) header then 0
+    else when ltb (length bytes) (header + u16 bytes 0) then 0
     else header + u16 bytes 0
 
 -- how many bytes a record that has begun waits for: those of its header, and then those of its payload
 unfoldable pub record_lacks : List ℕ → ℕ
 record_lacks bytes =
-    if ltb (length bytes) header then header - length bytes
+    when ltb (length bytes) header then header - length bytes
     else header + u16 bytes 0 - length bytes
 
 -- ---- what a record asks
@@ -56,16 +56,16 @@ record_lacks bytes =
 -- "a script kind from 1 to 12 with its right length (Inputs 20 to 148)": the sizes of each payload's fields together
 unfoldable pub right_length : (kind n : ℕ) → Bool
 right_length kind n =
-    if eqb kind 1 then eqb n (5 + 4 * 8)
-    else if eqb kind 2 then true
-    else if eqb kind 3 then eqb n (2 + 8 + 4 * 8 + 4)
-    else if eqb kind 4 then leb 20 n && leb n 148
-    else if eqb kind 5 then eqb n (2 + 8 + 3 * 8)
-    else if eqb kind 6 then eqb n (2 + 8 + 8)
-    else if eqb kind 7 then eqb n (2 + 8 + 1)
-    else if eqb kind 8 then eqb n 0
-    else if eqb kind 9 then eqb n (8 + 1 + 8)
-    else if leb 10 kind && leb kind 12 then eqb n 0
+    when eqb kind 1 then eqb n (5 + 4 * 8)
+    else when eqb kind 2 then true
+    else when eqb kind 3 then eqb n (2 + 8 + 4 * 8 + 4)
+    else when eqb kind 4 then leb 20 n && leb n 148
+    else when eqb kind 5 then eqb n (2 + 8 + 3 * 8)
+    else when eqb kind 6 then eqb n (2 + 8 + 8)
+    else when eqb kind 7 then eqb n (2 + 8 + 1)
+    else when eqb kind 8 then eqb n 0
+    else when eqb kind 9 then eqb n (8 + 1 + 8)
+    else when leb 10 kind && leb kind 12 then eqb n 0
     else false
 
 -- 1 open: peer count, local, width, delay, period, then seed, content, rules, session
@@ -86,7 +86,7 @@ params_from p = record {
 -- byte
 unfoldable pub body_from : ℕ → List ℕ → Body
 body_from kind p =
-    if eqb kind 3 then Hello (record {
+    when eqb kind 3 then Hello (record {
       agreement = u64 p 10;
       content = u64 p 18;
       rules = u64 p 26;
@@ -96,9 +96,9 @@ body_from kind p =
       delay = u8 p 44;
       period = u8 p 45;
     })
-    else if eqb kind 4 then Inputs (record { first = u64 p 10; count = u8 p 18; width = u8 p 19 })
-    else if eqb kind 5 then Digest (record { tick = u64 p 10; state = u64 p 18; input = u64 p 26 })
-    else if eqb kind 6 then Bye (record { tick = u64 p 10 })
+    else when eqb kind 4 then Inputs (record { first = u64 p 10; count = u8 p 18; width = u8 p 19 })
+    else when eqb kind 5 then Digest (record { tick = u64 p 10; state = u64 p 18; input = u64 p 26 })
+    else when eqb kind 6 then Bye (record { tick = u64 p 10 })
     else Other (u8 p 10)
 
 unfoldable pub message_from : ℕ → List ℕ → Message
@@ -107,12 +107,12 @@ message_from kind p = record { sender = u8 p 1; session = u64 p 2; body = body_f
 -- 2 submit; 3 to 7 a message, its source first; 8 advance; 9 commit: tick, flag, digest; 10 leave; 11 pump; 12 report
 unfoldable pub call_from : ℕ → List ℕ → Call
 call_from kind p =
-    if eqb kind 2 then Submit
-    else if leb 3 kind && leb kind 7 then Deliver (u8 p 0) (message_from kind p)
-    else if eqb kind 8 then Advance
-    else if eqb kind 9 then Commit (u64 p 0) (u8 p 8) (u64 p 9)
-    else if eqb kind 10 then Leave
-    else if eqb kind 11 then Pump
+    when eqb kind 2 then Submit
+    else when leb 3 kind && leb kind 7 then Deliver (u8 p 0) (message_from kind p)
+    else when eqb kind 8 then Advance
+    else when eqb kind 9 then Commit (u64 p 0) (u8 p 8) (u64 p 9)
+    else when eqb kind 10 then Leave
+    else when eqb kind 11 then Pump
     else Report
 
 abbrev pub kind_of : List ℕ → ℕ
@@ -124,16 +124,16 @@ payload_of r = drop header r
 -- a record with its right length is run; another is bad
 unfoldable pub asked : List ℕ → Asked
 asked r =
-    if ltb (length r) header then Bad
-    else if not (right_length (kind_of r) (length (payload_of r))) then Bad
-    else if eqb (kind_of r) 1 then Open (params_from (payload_of r))
+    when ltb (length r) header then Bad
+    else when not (right_length (kind_of r) (length (payload_of r))) then Bad
+    else when eqb (kind_of r) 1 then Open (params_from (payload_of r))
     else Of (call_from (kind_of r) (payload_of r))
 
 -- what goes beside a call: a submit's bytes, and an Inputs' run, which is last; it begins here in a record of n bytes
 unfoldable pub rest_start : (kind n : ℕ) → ℕ
 rest_start kind n =
-    if eqb kind 2 then min header n
-    else if eqb kind 4 then min (header + 20) n
+    when eqb kind 2 then min header n
+    else when eqb kind 4 then min (header + 20) n
     else n
 
 unfoldable pub rest_of : List ℕ → List ℕ

@@ -8,7 +8,7 @@ use mathlib.Core.Bool.{Bool, true, false}
 use lib.Dec.{eqb}
 use lib.ListN.{length}
 use borrow.Author.Tests.{eq-eqb, ne_eqb, eqb-true, eqb-false, not-false}
-use Rattle.logic.specs.Test.{if◌then◌else◌}
+use Rattle.logic.specs.Test.{when◌then◌else◌}
 use Rattle.logic.proofs.Cases.{by_test, if_true, if_false}
 use Rattle.params.specs.Params.{bad_state}
 use Rattle.window.specs.Window.{held_by, write_frame}
@@ -72,7 +72,7 @@ module _ (P : Submitted → Type 0) (s : Session) (input : List ℕ)
       let w = write_frame s.window s.head.params.local s.head.play.next_local input in
       head_cases
       (λ (r : HeadSubmitted).
-      let after = if eqb (submit_no r.answer) 0 then w else s.window in
+      let after = when eqb (submit_no r.answer) 0 then w else s.window in
       P (submitted (session_of r.head after s.prints) r.answer))
       s.head (length input)
       (λ a n. rw (if_false w s.window (ne_eqb (submit_no a) 0 n)) (refused a n))

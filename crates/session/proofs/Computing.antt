@@ -1,6 +1,6 @@
 -- What the host's calls compute with, the session's definitions and those under them, as one name to unfold: under
 -- `unfolding hosting` a proof computes a call. Assumes nothing.
-use Rattle.logic.specs.Test.{if◌then◌else◌}
+use Rattle.logic.specs.Test.{when◌then◌else◌}
 use Rattle.logic.specs.Range.{outside}
 use Rattle.logic.specs.Saturating.{raised}
 use Rattle.logic.specs.Tabulate.{tabulate}
@@ -20,7 +20,7 @@ use Rattle.session.specs.Step.{stepped, take_step, play_on, advance_by, advance_
 use Rattle.session.specs.Step.{played, judge, keep_digest, commit_from, commit}
 
 unfoldable pub hosting : Unit {0}
-unfolding if◌then◌else◌ outside raised tabulate fnv le_bytes
+unfolding when◌then◌else◌ outside raised tabulate fnv le_bytes
     has set_of every first_seats adding removing is_subset
     validity bad_state agreement_bytes agreement_of roster_of remotes_of
     fresh_window held_by is_held frame_of written write_frame padded rows_of heads step_digest

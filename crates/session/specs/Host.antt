@@ -1,7 +1,7 @@
 -- Document 01, what the host calls: open, submit and leave. 20 comes first, and then, in submit, a standing outcome.
 -- Assumes nothing.
 use Rattle.std.specs.Prelude.{ℕ, ◌-◌, not, List, eqb, leb, length}
-use Rattle.logic.specs.Test.{if◌then◌else◌}
+use Rattle.logic.specs.Test.{when◌then◌else◌}
 use Rattle.logic.specs.Saturating.{raised}
 use Rattle.peer.specs.Cells.{window}
 use Rattle.params.specs.Params.{validity, bad_state}
@@ -55,8 +55,8 @@ pressed h = with_play h (record {
 -- 41 length; 42 next local tick minus pending at least 64
 unfoldable pub submit_open : Head → ℕ → HeadSubmitted
 submit_open h n =
-    if not (eqb n h.params.width) then answered h (Submit'.WrongWidth n h.params.width)
-    else if leb window (h.play.next_local - h.play.pending)
+    when not (eqb n h.params.width) then answered h (Submit'.WrongWidth n h.params.width)
+    else when leb window (h.play.next_local - h.play.pending)
     then answered h (Submit'.WindowFull h.play.next_local h.play.pending)
     else answered (started (pressed h)) (Submit'.Accepted h.play.next_local)
 
@@ -66,7 +66,7 @@ submit_by h n Open = submit_open h n
 
 -- a press of n bytes
 unfoldable pub submit_head : Head → ℕ → HeadSubmitted
-submit_head h n = if bad_state h.params then answered h Submit'.BadState else submit_by h n h.outcome
+submit_head h n = when bad_state h.params then answered h Submit'.BadState else submit_by h n h.outcome
 
 abbrev pub submitted : Session → Submit → Submitted
 submitted s answer = record { session = s; answer = answer }
@@ -77,7 +77,7 @@ submit s input =
     let r = submit_head s.head (length input) in
     let written = write_frame s.window s.head.params.local s.head.play.next_local input in
     submitted
-    (session_of r.head (if eqb (submit_no r.answer) 0 then written else s.window) s.prints) r.answer
+    (session_of r.head (when eqb (submit_no r.answer) 0 then written else s.window) s.prints) r.answer
 
 -- ---- leave
 
@@ -93,7 +93,7 @@ leave_by h Open =
     (Leave'.Ended (LeftLocally (last_committed h)))
 
 unfoldable pub leave_head : Head → HeadLeft
-leave_head h = if bad_state h.params then leaving h Leave'.BadState else leave_by h h.outcome
+leave_head h = when bad_state h.params then leaving h Leave'.BadState else leave_by h h.outcome
 
 unfoldable pub leave : Session → Left
 leave s = record { session = with_head s (leave_head s.head).head; answer = (leave_head s.head).answer }

@@ -2,7 +2,7 @@
 -- change, and what is said of a session everywhere. Document 01: a session with an outcome is over, and the first
 -- outcome stays; it plays once it has started and is not over. Assumes nothing.
 use Rattle.std.specs.Prelude.{ℕ, ◌-◌, Bool, true, false, not, ◌&&◌, ltb}
-use Rattle.logic.specs.Test.{if◌then◌else◌}
+use Rattle.logic.specs.Test.{when◌then◌else◌}
 use Rattle.logic.specs.Saturating.{most}
 use Rattle.hash.specs.Fnv.{start}
 use Rattle.peer.specs.Seats.{seats, adding, is_subset}
@@ -155,6 +155,6 @@ starts p hellos next = is_subset seats (roster_of p) hellos && ltb p.delay next
 
 unfoldable pub started : Head → Head
 started h =
-    if starts h.params h.marks.hellos h.play.next_local
+    when starts h.params h.marks.hellos h.play.next_local
     then with_marks h (record { hellos = h.marks.hellos; playing = h.marks.playing; started = true })
     else h

@@ -1,7 +1,7 @@
 -- Document 01, "Step and commit".
 -- Assumes nothing.
 use Rattle.std.specs.Prelude.{ℕ, ◌%◌, Bool, not, List, eqb, replicate}
-use Rattle.logic.specs.Test.{if◌then◌else◌}
+use Rattle.logic.specs.Test.{when◌then◌else◌}
 use Rattle.logic.specs.Saturating.{most, raised}
 use Rattle.peer.specs.Seats.{seats, less}
 use Rattle.params.specs.Params.{max_width, bad_state, roster_of, remotes_of}
@@ -88,12 +88,12 @@ stall h held =
 
 -- after an outcome that is no desync, the ticks that every seat is held for are still played
 unfoldable pub drain : Head → (held : ℕ) → List (List ℕ) → Outcome → HeadAdvanced
-drain h held rows o = if every_seat h held then take_step h rows else idle h (Advance'.Ended o)
+drain h held rows o = when every_seat h held then take_step h rows else idle h (Advance'.Ended o)
 
 unfoldable pub play_on : Head → (held : ℕ) → List (List ℕ) → HeadAdvanced
 play_on h held rows =
-    if not h.marks.started then idle h Advance'.Waiting
-    else if every_seat h held then take_step h rows
+    when not h.marks.started then idle h Advance'.Waiting
+    else when every_seat h held then take_step h rows
     else stall h held
 
 -- desynced, ended; no outcome and not playing, waiting; every seat held, step; outcome, ended; else stalled
@@ -110,7 +110,7 @@ advance_from h held rows Free = advance_by h held rows h.outcome
 
 unfoldable pub advance_head : Head → (held : ℕ) → List (List ℕ) → HeadAdvanced
 advance_head h held rows =
-    if bad_state h.params then idle h Advance'.BadState else advance_from h held rows h.play.step
+    when bad_state h.params then idle h Advance'.BadState else advance_from h held rows h.play.step
 
 -- the frames of the pending tick, as eight rows of sixteen bytes
 abbrev pub step_rows : Head → Window → List (List ℕ)
@@ -138,7 +138,7 @@ played h = with_play h (record {
 -- a difference ends the session as desynced at that tick
 unfoldable pub judge : Session → ℕ → Session
 judge s tick =
-    if parted s.prints (remotes_of s.head.params) tick
+    when parted s.prints (remotes_of s.head.params) tick
     then with_head s (ended s.head (Desynced tick))
     else s
 
@@ -165,10 +165,10 @@ committed s answer = record { session = s; answer = answer }
 unfoldable pub commit_from : Session → ℕ → WorldDigest → Outstanding → Committed
 commit_from s tick given Free = committed s (Commit'.OutOfOrder tick s.head.play.pending)
 commit_from s tick given (Out expected due) =
-    if not (eqb tick expected) then committed s (Commit'.OutOfOrder tick expected)
-    else if mismatch due given then committed s (Commit'.DigestMismatch tick due)
+    when not (eqb tick expected) then committed s (Commit'.OutOfOrder tick expected)
+    else when mismatch due given then committed s (Commit'.DigestMismatch tick due)
     else committed (keep_digest (with_head s (played s.head)) tick given) Commit'.Done
 
 unfoldable pub commit : Session → ℕ → WorldDigest → Committed
 commit s tick given =
-    if bad_state s.head.params then committed s Commit'.BadState else commit_from s tick given s.head.play.step
+    when bad_state s.head.params then committed s Commit'.BadState else commit_from s tick given s.head.play.step

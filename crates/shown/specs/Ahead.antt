@@ -2,7 +2,7 @@
 -- The meaning looks at all 64 ticks and takes the full run at the front. A tick above 2^64-1 is a gap. 20 comes first.
 -- Assumes nothing.
 use Rattle.std.specs.Prelude.{ℕ, suc, ◌+◌, Bool, true, false, ◌&&◌, List, [], ◌∷◌, leb}
-use Rattle.logic.specs.Test.{if◌then◌else◌}
+use Rattle.logic.specs.Test.{when◌then◌else◌}
 use Rattle.logic.specs.Saturating.{most}
 use Rattle.logic.specs.Tabulate.{tabulate}
 use Rattle.peer.specs.Cells.{window}
@@ -35,7 +35,7 @@ ahead h w = front_run (readiness h w)
 
 -- 20 first, for a record whose parameters fail
 unfoldable pub ready_ticks : Session → Ready
-ready_ticks s = if bad_state s.head.params then BadState else Ticks (ahead s.head s.window)
+ready_ticks s = when bad_state s.head.params then BadState else Ticks (ahead s.head s.window)
 
 abbrev pub ready_no : Ready → ℕ
 ready_no (Ticks n) = 0

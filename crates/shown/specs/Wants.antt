@@ -1,7 +1,7 @@
 -- Document 01, "The window": `wants_local`.
 -- Assumes nothing.
 use Rattle.std.specs.Prelude.{◌-◌, Bool, false, ◌&&◌, ltb, leb}
-use Rattle.logic.specs.Test.{if◌then◌else◌}
+use Rattle.logic.specs.Test.{when◌then◌else◌}
 use Rattle.logic.specs.Saturating.{sum}
 use Rattle.peer.specs.Cells.{window}
 use Rattle.params.specs.Params.{bad_state}
@@ -14,6 +14,6 @@ unfoldable pub wants_local : Head → Bool
 wants_local h =
     let next = h.play.next_local in
     let pending = h.play.pending in
-    if is_over h.outcome then false
-    else if bad_state h.params then false
+    when is_over h.outcome then false
+    else when bad_state h.params then false
     else leb next (sum pending h.params.delay) && ltb (next - pending) window

@@ -4,7 +4,7 @@ use mathlib.Core.Path.{◌≡◌, refl}
 use mathlib.Core.Bool.{true, false}
 use mathlib.Core.List.{[], ◌∷◌}
 use Prim.Native.Nat.{ℕ}
-use Rattle.logic.specs.Test.{if◌then◌else◌}
+use Rattle.logic.specs.Test.{when◌then◌else◌}
 use Rattle.logic.specs.Range.{outside}
 use Rattle.logic.specs.Saturating.{most, raised}
 use Rattle.stats.specs.declared.SessionStats.{SessionStats}
@@ -41,7 +41,7 @@ numbers :
     ∷ of most last last most last last ∷ of most last most last last last ∷ of most last last last most last
     ∷ all most ∷ all most ∷ all most
     ∷ []
-unfolding of all last no_stats counted_of raised_if raised outside if◌then◌else◌
+unfolding of all last no_stats counted_of raised_if raised outside when◌then◌else◌
 numbers = refl
 
 stalls :
@@ -51,5 +51,5 @@ stalls :
     ≡ of 0 0 0 0 0 1 ∷ of 0 0 0 0 0 1 ∷ of 7 7 7 7 7 8 ∷ of 7 7 7 7 7 1
     ∷ of last last last last last most ∷ all most ∷ of most most most most most 1
     ∷ []
-unfolding of all last no_stats stalled_of raised if◌then◌else◌
+unfolding of all last no_stats stalled_of raised when◌then◌else◌
 stalls = refl

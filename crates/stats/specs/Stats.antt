@@ -2,14 +2,14 @@
 -- Counters stop at 2^64-1." And of a stall: "a count, `stall_pumps`, raised by one, from 0 if the tick isn't the last
 -- stalled one". Assumes nothing.
 use Rattle.std.specs.Prelude.{ℕ, Bool, not, eqb}
-use Rattle.logic.specs.Test.{if◌then◌else◌}
+use Rattle.logic.specs.Test.{when◌then◌else◌}
 use Rattle.logic.specs.Range.{outside}
 use Rattle.logic.specs.Saturating.{raised}
 use Rattle.stats.specs.declared.SessionStats.{SessionStats}
 
 -- one more where b holds
 unfoldable pub raised_if : Bool → ℕ → ℕ
-raised_if b n = if b then raised n else n
+raised_if b n = when b then raised n else n
 
 -- the counters of a new session
 unfoldable pub no_stats : SessionStats
@@ -41,7 +41,7 @@ stalled_of s again = record {
   frames_contradicted = s.frames_contradicted;
   frames_out_of_window = s.frames_out_of_window;
   digests_contradicted = s.digests_contradicted;
-  stall_pumps = raised (if again then s.stall_pumps else 0);
+  stall_pumps = raised (when again then s.stall_pumps else 0);
 }
 
 -- with the counter of repeated frames at n

@@ -9,7 +9,7 @@ use borrow.Author.Tests.{eq-eqb, ne_eqb}
 use lib.Dec.{eqb}
 use lib.ListN.{length, take, drop, get_or, length-append, length-take, length-drop}
 use lib.Seq.{take_all, take-suc, take-take, take-add, take-append_seam, length-take-le}
-use Rattle.logic.specs.Test.{if◌then◌else◌}
+use Rattle.logic.specs.Test.{when◌then◌else◌}
 use Rattle.logic.proofs.Cases.{if_true, if_false, decide}
 use Rattle.text.specs.Text.{text_limit, Page, page, written, put_within, join}
 use Rattle.text.proofs.Writing.{within_room, put_said}
@@ -141,7 +141,7 @@ module _ (form : Form) (s : Session) (begun piece bytes : List ℕ) (used : ℕ)
 
 -- nothing has begun
 pub none_begun : (buffer : List ℕ) → length buffer ≡ longest → Begun buffer 0
-unfolding record_size if◌then◌else◌
+unfolding record_size when◌then◌else◌
 none_begun buffer e = record { room = e; short = omega arith; part = refl }
 
 -- ---- one use after the other

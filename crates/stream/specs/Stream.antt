@@ -1,7 +1,7 @@
 -- Between reading and writing, which are beyond a contract: the bytes come in pieces, and what each piece comes to is
 -- what the definition of a script's lines (runner/specs/Script.antt) makes of it. Assumes nothing.
 use Rattle.std.specs.Prelude.{ℕ, ◌≤◌, ◌<◌, ◌≡◌, List, [], ◌∷◌, ◌++◌, length, take}
-use Rattle.logic.specs.Test.{if◌then◌else◌}
+use Rattle.logic.specs.Test.{when◌then◌else◌}
 use Rattle.session.specs.Session.{fresh}
 use Rattle.session.specs.declared.Session.{Session}
 use Rattle.script.specs.Records.{longest, record_size}
@@ -29,7 +29,7 @@ pub record Gathers (begun piece : List ℕ) (used : ℕ) (bytes : List ℕ) : Ty
 
 -- where they stand: in the piece, or at the front of the buffer
 unfoldable pub bytes_of : (buffer piece : List ℕ) → Gathered → List ℕ
-bytes_of buffer piece g = take g.size (if g.here then piece else buffer)
+bytes_of buffer piece g = take g.size (when g.here then piece else buffer)
 
 -- bytes at the front of a piece are used, some where there are some, and the script is read on by just these
 pub record Feeds (form : Form) (before : Reading) (piece : List ℕ) (used : ℕ) (after : Reading) : Type 0 where

@@ -1,7 +1,7 @@
 -- Worked examples, computed from the definitions. Assumes nothing.
 use mathlib.Core.Path.{◌≡◌, refl}
 use mathlib.Core.List.{[], ◌∷◌}
-use Rattle.logic.specs.Test.{if◌then◌else◌}
+use Rattle.logic.specs.Test.{when◌then◌else◌}
 use Rattle.text.specs.Ascii.{ascii}
 use Rattle.text.specs.Text.{page, put_within}
 use Rattle.text.specs.Decimal.{digits, decimal}
@@ -19,7 +19,7 @@ decimals = refl
 hexes :
     hex_digits 16 48879 ∷ hex_digits 16 18446744073709551615 ∷ hex_digits 2 10 ∷ hex_bytes (0x41 ∷ 0 ∷ 0xf9 ∷ []) ∷ []
     ≡ ascii "000000000000beef" ∷ ascii "ffffffffffffffff" ∷ ascii "0a" ∷ ascii "4100f9" ∷ []
-unfolding hex_digit hex_digits hex_bytes if◌then◌else◌
+unfolding hex_digit hex_digits hex_bytes when◌then◌else◌
 hexes = refl
 
 -- behind a text of one byte, and the rest of the buffer keeps its values

@@ -2,7 +2,6 @@
 -- of document 01. Assumes nothing.
 use Rattle.std.specs.Prelude.{ℕ, List, [], ◌∷◌}
 use Prim.Native.Char.{code}
-use Prim.Native.String as String
 use Prim.Native.String.{String}
 
 abbrev pub ascii : String → List ℕ

@@ -1,10 +1,10 @@
 -- A number in lower-case hexadecimal: its k last digits, zeros in front included. A byte of a frame has two, a digest
 -- sixteen. Assumes nothing.
 use Rattle.std.specs.Prelude.{ℕ, zero, suc, ◌+◌, ◌-◌, ◌*◌, ◌/◌, ◌%◌, List, [], ◌∷◌, ◌++◌, ltb}
-use Rattle.logic.specs.Test.{if◌then◌else◌}
+use Rattle.logic.specs.Test.{when◌then◌else◌}
 
 unfoldable pub hex_digit : ℕ → ℕ
-hex_digit d = if ltb d 10 then 48 + d else 87 + d
+hex_digit d = when ltb d 10 then 48 + d else 87 + d
 
 unfoldable pub hex_digits : ℕ → ℕ → List ℕ
 hex_digits zero n = []
@@ -24,7 +24,7 @@ hex_bytes (b ∷ bs) = hex_byte b ++ hex_bytes bs
 -- ---- reading
 
 unfoldable pub hex_value : ℕ → ℕ
-hex_value b = if ltb b 58 then b - 48 else b - 87
+hex_value b = when ltb b 58 then b - 48 else b - 87
 
 -- the number that the k digits in front say after `acc`, and what is left
 unfoldable pub read_hex : ℕ → ℕ → List ℕ → ℕ × List ℕ

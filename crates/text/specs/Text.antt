@@ -1,7 +1,7 @@
 -- Document 01, "Pump and report": text is at most 2,048 bytes; 62 exactly when the lent buffer is shorter than the
 -- text. Bytes past the text keep their values. Assumes nothing.
 use Rattle.std.specs.Prelude.{ℕ, ◌+◌, ◌≡◌, List, [], ◌∷◌, ◌++◌, leb, length, take, drop}
-use Rattle.logic.specs.Test.{if◌then◌else◌}
+use Rattle.logic.specs.Test.{when◌then◌else◌}
 use Rattle.text.specs.declared.Copied.{Copied}
 use Rattle.text.specs.declared.Copied.TheVariants.{Written, NoRoom}
 
@@ -51,11 +51,11 @@ total (p ∷ ps) = length p + total ps
 
 -- no room exactly where the buffer is shorter than the text
 unfoldable pub copy_answer : (text out : List ℕ) → Copied
-copy_answer text out = if leb (length text) (length out) then Written (length text) else NoRoom
+copy_answer text out = when leb (length text) (length out) then Written (length text) else NoRoom
 
 -- the text at the front, and the bytes past it as they were; without room, all of them
 unfoldable pub copy_into : (text out : List ℕ) → List ℕ
-copy_into text out = if leb (length text) (length out) then text ++ drop (length text) out else out
+copy_into text out = when leb (length text) (length out) then text ++ drop (length text) out else out
 
 -- what is answered, and what the buffer holds after
 pub record Copies (text out : List ℕ) (answer : Copied) (after : List ℕ) : Type 0 where

@@ -2,7 +2,7 @@
 -- whole, and after every record all six counters, pending, next local tick, playing, `wants_local`, input digest and
 -- outcome. A truth is 1 or 0, and no outcome is `0 - 0`. Assumes nothing.
 use Rattle.std.specs.Prelude.{ℕ, ◌*◌, Bool, List, [], ◌∷◌, ◌++◌, take}
-use Rattle.logic.specs.Test.{if◌then◌else◌}
+use Rattle.logic.specs.Test.{when◌then◌else◌}
 use Rattle.text.specs.Ascii.{ascii}
 use Rattle.text.specs.Text.{join}
 use Rattle.text.specs.Decimal.{decimal}
@@ -53,7 +53,7 @@ sent_line BadState run = []
 
 -- a pump's line and, in the trace form, the message
 unfoldable pub send_lines : Outbound → List ℕ → Bool → List ℕ
-send_lines answer run traced = send_line answer ++ (if traced then sent_line answer run else [])
+send_lines answer run traced = send_line answer ++ (when traced then sent_line answer run else [])
 
 -- ---- a session
 

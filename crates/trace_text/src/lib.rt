@@ -1,5 +1,7 @@
 // The trace form of a script's lines: every message whole, and after each record what the session shows. Programs are
 // held against each other by it. All goes into the buffer that has the record's line.
+#![tactic(auto)]
+
 ghost use Rattle.std.specs.Prelude.{◌*◌, ◌≤◌, min, ◌≡◌, length};
 ghost use Rattle.text.specs.Text.{page, put};
 ghost use Rattle.lines.specs.Lines.{Says};
@@ -22,8 +24,8 @@ fn spaced(out: &mut [u8; text::LIMIT], at: usize, n: u64) -> usize
 }
 
 fn hello_whole(out: &mut [u8; text::LIMIT], at: usize, b: HelloBody) -> usize
-    ensures result_after { page out.new result ≡ put (page out.old at) (hello_whole b) }
-    ensures b_len_bound { length (hello_whole b) ≤ 168 }
+    ensures writes { page out.new result ≡ put (page out.old at) (hello_whole b) }
+    ensures within { length (hello_whole b) ≤ 168 }
 {
     let mut end = spaced(out, at, b.agreement);
     end = spaced(out, end, b.content);
@@ -47,8 +49,8 @@ fn inputs_whole(
     b: InputsBody,
     run: [u8; pump::RUN],
 ) -> usize
-    ensures result_after { page out.new result ≡ put (page out.old at) (inputs_whole b run) }
-    ensures run_len_bound { length (inputs_whole b run) ≤ 320 }
+    ensures writes { page out.new result ≡ put (page out.old at) (inputs_whole b run) }
+    ensures within { length (inputs_whole b run) ≤ 320 }
 {
     let n = run_size(b.count, b.width);
     let mut end = spaced(out, at, b.first);
@@ -60,8 +62,8 @@ fn inputs_whole(
 
 // What a message holds, its run too.
 fn body_whole(out: &mut [u8; text::LIMIT], at: usize, body: Body, run: [u8; pump::RUN]) -> usize
-    ensures result_after { page out.new result ≡ put (page out.old at) (body_whole body run) }
-    ensures run_len_bound { length (body_whole body run) ≤ 320 }
+    ensures writes { page out.new result ≡ put (page out.old at) (body_whole body run) }
+    ensures within { length (body_whole body run) ≤ 320 }
 {
     match body {
         Body::Hello(b) => hello_whole(out, at, b),
@@ -77,8 +79,8 @@ fn body_whole(out: &mut [u8; text::LIMIT], at: usize, body: Body, run: [u8; pump
 }
 
 fn message_whole(out: &mut [u8; text::LIMIT], at: usize, m: Message, run: [u8; pump::RUN]) -> usize
-    ensures result_after { page out.new result ≡ put (page out.old at) (message_whole m run) }
-    ensures run_len_bound { length (message_whole m run) ≤ 384 }
+    ensures writes { page out.new result ≡ put (page out.old at) (message_whole m run) }
+    ensures within { length (message_whole m run) ≤ 384 }
 {
     let body = m.body;
     let sender = text::decimal(out, at, long(m.sender));
@@ -93,8 +95,8 @@ fn sent_line(
     answer: Outbound,
     run: [u8; pump::RUN],
 ) -> usize
-    ensures result_after { page out.new result ≡ put (page out.old at) (sent_line answer run) }
-    ensures run_len_bound { length (sent_line answer run) ≤ 400 }
+    ensures writes { page out.new result ≡ put (page out.old at) (sent_line answer run) }
+    ensures within { length (sent_line answer run) ≤ 400 }
 {
     match answer {
         Outbound::Send { peer: _, message } => {
@@ -124,8 +126,8 @@ pub fn send_lines(
 }
 
 fn standing(out: &mut [u8; text::LIMIT], at: usize, standing: Standing) -> usize
-    ensures result_after { page out.new result ≡ put (page out.old at) (standing_text standing) }
-    ensures standing_len_bound { length (standing_text standing) ≤ 64 }
+    ensures writes { page out.new result ≡ put (page out.old at) (standing_text standing) }
+    ensures within { length (standing_text standing) ≤ 64 }
 {
     match standing {
         Standing::Open => text::piece(out, at, b"0 - 0"),
@@ -134,8 +136,8 @@ fn standing(out: &mut [u8; text::LIMIT], at: usize, standing: Standing) -> usize
 }
 
 fn counters(out: &mut [u8; text::LIMIT], at: usize, s: SessionStats) -> usize
-    ensures result_after { page out.new result ≡ put (page out.old at) (counters_text s) }
-    ensures s_len_bound { length (counters_text s) ≤ 128 }
+    ensures writes { page out.new result ≡ put (page out.old at) (counters_text s) }
+    ensures within { length (counters_text s) ≤ 128 }
 {
     let mut end = text::decimal(out, at, s.datagrams_refused);
     end = spaced(out, end, s.frames_repeated);
@@ -157,9 +159,9 @@ pub fn state_line(
     digest: u64,
     outcome: Standing,
 ) -> usize
-    ensures result_after { page out.new result
+    ensures writes { page out.new result
         ≡ put (page out.old at) (state_line stats pending next playing wants digest outcome) }
-    ensures outcome_len_bound { length (state_line stats pending next playing wants digest outcome) ≤ 400 }
+    ensures within { length (state_line stats pending next playing wants digest outcome) ≤ 400 }
 {
     let mut end = text::piece(out, at, b"= ");
     end = counters(out, end, stats);

@@ -5,7 +5,7 @@ use Prim.Native.Nat.{ℕ}
 use mathlib.Core.Path.{◌≡◌, refl}
 use mathlib.Core.List.{List, [], ◌∷◌}
 use mathlib.Core.Bool.{Bool, true, false}
-use Rattle.logic.specs.Test.{if◌then◌else◌}
+use Rattle.logic.specs.Test.{when◌then◌else◌}
 use Rattle.logic.specs.Saturating.{sum, raised}
 use Rattle.peer.specs.Seats.{has, set_of, adding}
 use Rattle.window.specs.Window.{fresh_window, held_by, is_held, frame_of, written, write_frame}
@@ -17,7 +17,7 @@ use Rattle.window.specs.declared.Note.TheVariants.{Nothing, OutOfWindow, Contrad
 -- what a message's frames compute with, as one name to unfold
 absorbing : Unit {0}
 unfolding fresh_window has set_of adding held_by is_held frame_of written write_frame sum raised same_bytes
-    absorb_one frame_at absorb_first absorb_inputs if◌then◌else◌
+    absorb_one frame_at absorb_first absorb_inputs when◌then◌else◌
 absorbing = tt
 
 -- what a message did: its last note, whether a frame was written, and the repeats

@@ -11,7 +11,7 @@ use lib.ListN.{length, get_or, replicate, length-set, length-replicate}
 use lib.ListN.{length-take, length-drop, get_or-replicate, get_or-eq_default}
 use lib.Seq.{length-paste, get_or-set_same, get_or-set_other, take-length}
 use borrow.Author.Tests.{eq-eqb, ne_eqb, lt-ltb, le-leb}
-use Rattle.logic.specs.Test.{if◌then◌else◌}
+use Rattle.logic.specs.Test.{when◌then◌else◌}
 use Rattle.logic.specs.Saturating.{most}
 use Rattle.logic.proofs.Cases.{case_eq, case_lt, if_same}
 use Rattle.peer.specs.Seats.{seats, has, adding}
@@ -50,7 +50,7 @@ module _ (w : Window) (seat tick : ℕ) (bytes : List ℕ) (ok : Sized w) (low :
   room = rw ok.ring (omega arith)
 
   pub write_is : write_frame w seat tick bytes ≡ written w seat tick bytes
-  unfolding write_frame if◌then◌else◌
+  unfolding write_frame when◌then◌else◌
   write_is = rw (lt-ltb seat seats low, le-leb (length bytes) max_width short)
 
   pub written_sized : Sized (written w seat tick bytes)
@@ -63,7 +63,7 @@ module _ (w : Window) (seat tick : ℕ) (bytes : List ℕ) (ok : Sized w) (low :
 
   -- the seats held for the tick of the frame, for a tick of another cell, and for another tick of the same cell
   held_same : held_by (written w seat tick bytes) tick ≡ adding seats (held_by w tick) seat
-  unfolding held_by written if◌then◌else◌
+  unfolding held_by written when◌then◌else◌
   held_same =
       rw (get_or-set_same w.ticks (slot_of tick) tick 0 (rw ok.ticks (omega arith)), eq-eqb tick tick refl)
       (get_or-set_same w.present (slot_of tick) _ 0 (rw ok.present (omega arith)))
@@ -77,7 +77,7 @@ module _ (w : Window) (seat tick : ℕ) (bytes : List ℕ) (ok : Sized w) (low :
       )
 
   pub held_over : (u : ℕ) → slot_of u ≡ slot_of tick → u ≢ tick → held_by (written w seat tick bytes) u ≡ 0
-  unfolding held_by written if◌then◌else◌
+  unfolding held_by written when◌then◌else◌
   held_over u e ne =
       rw (
         e,

@@ -2,7 +2,7 @@
 -- held and equal, raise `frames_repeated`; held and different, note 28; else write. Only the last note counts. Assumes
 -- nothing.
 use Rattle.std.specs.Prelude.{ℕ, zero, suc, ◌*◌, ◌-◌, Bool, true, false, ◌&&◌, List, [], ◌∷◌, eqb, leb, ltb, length, take, drop}
-use Rattle.logic.specs.Test.{if◌then◌else◌}
+use Rattle.logic.specs.Test.{when◌then◌else◌}
 use Rattle.logic.specs.Saturating.{sum, raised}
 use Rattle.peer.specs.Cells.{window}
 use Rattle.wire.specs.declared.InputsBody.{InputsBody}
@@ -45,10 +45,10 @@ stores a seat tick bytes =
 
 unfoldable pub absorb_one : Absorbed → (pending seat tick : ℕ) → List ℕ → Absorbed
 absorb_one a pending seat tick bytes =
-    if ltb tick pending then a
-    else if leb window (tick - pending) then noted a (OutOfWindow tick pending)
-    else if is_held a.window seat tick
-    then (if same_bytes (frame_of a.window seat tick (length bytes)) bytes
+    when ltb tick pending then a
+    else when leb window (tick - pending) then noted a (OutOfWindow tick pending)
+    else when is_held a.window seat tick
+    then (when same_bytes (frame_of a.window seat tick (length bytes)) bytes
     then repeats a else noted a (Contradiction seat tick))
     else stores a seat tick bytes
 

@@ -3,7 +3,7 @@
 -- stand for a seat and tick are the bytes already held if there are any, else the message's. Assumes nothing.
 use Rattle.std.specs.Prelude.{ℕ, ◌+◌, ◌*◌, Bool, List, eqb, leb, ltb, length, get_or, set, take, drop, replicate}
 use Rattle.std.proofs.Math.Seq.{paste}
-use Rattle.logic.specs.Test.{if◌then◌else◌}
+use Rattle.logic.specs.Test.{when◌then◌else◌}
 use Rattle.logic.specs.Saturating.{most}
 use Rattle.peer.specs.Seats.{seats, has, adding}
 use Rattle.peer.specs.Cells.{window, slot_of}
@@ -26,7 +26,7 @@ fresh_window = window_of (replicate ring_bytes 0) (replicate window most) (repli
 
 -- the seats whose frame for the tick is held: those of its cell, if that stands at this very tick
 unfoldable pub held_by : Window → ℕ → ℕ
-held_by w tick = if eqb (get_or w.ticks (slot_of tick) 0) tick then get_or w.present (slot_of tick) 0 else 0
+held_by w tick = when eqb (get_or w.ticks (slot_of tick) 0) tick then get_or w.present (slot_of tick) 0 else 0
 
 unfoldable pub is_held : Window → ℕ → ℕ → Bool
 is_held w seat tick = has (held_by w tick) seat
@@ -37,7 +37,7 @@ frame_of w seat tick n = take n (drop (frame_start seat tick) w.ring)
 
 -- the bytes that stand: those at `at` of the ring if they are held, else the message's
 unfoldable pub standing : Bool → List ℕ → ℕ → List ℕ → List ℕ
-standing held ring at bytes = if held then take (length bytes) (drop at ring) else bytes
+standing held ring at bytes = when held then take (length bytes) (drop at ring) else bytes
 
 -- a frame in its cell, which then stands at the frame's tick and holds the seats held for that tick, and this one
 unfoldable pub written : Window → ℕ → ℕ → List ℕ → Window
@@ -50,6 +50,6 @@ written w seat tick bytes = record {
 -- a seat above 7 has no cell, and a cell takes sixteen bytes
 unfoldable pub write_frame : Window → ℕ → ℕ → List ℕ → Window
 write_frame w seat tick bytes =
-    if ltb seat seats
-    then (if leb (length bytes) max_width then written w seat tick bytes else w)
+    when ltb seat seats
+    then (when leb (length bytes) max_width then written w seat tick bytes else w)
     else w

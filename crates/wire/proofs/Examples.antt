@@ -5,7 +5,7 @@ use mathlib.Core.List.{[], ◌∷◌}
 use Prim.Native.Nat.{ℕ, ◌+◌, ◌-◌}
 use Rattle.peer.specs.Seats.{seats}
 use lib.ListN.{replicate}
-use Rattle.logic.specs.Test.{if◌then◌else◌}
+use Rattle.logic.specs.Test.{when◌then◌else◌}
 use Rattle.logic.specs.Range.{outside}
 use Rattle.wire.specs.declared.Body.{Body}
 use Rattle.wire.specs.declared.Body.TheVariants.{Hello, Inputs, Digest, Bye, Other}
@@ -48,7 +48,7 @@ hellos :
     ∷ 6 ∷ 0
     ∷ 1 ∷ 2 ∷ 3 ∷ 4 ∷ 5
     ∷ []
-unfolding form hello form_of body_form hello_form outside if◌then◌else◌
+unfolding form hello form_of body_form hello_form outside when◌then◌else◌
 hellos = refl
 
 of_inputs :
@@ -67,7 +67,7 @@ of_inputs :
     ∷ 0 ∷ 9
     ∷ 4 ∷ 7 ∷ 8
     ∷ []
-unfolding form inputs form_of body_form inputs_form outside if◌then◌else◌
+unfolding form inputs form_of body_form inputs_form outside when◌then◌else◌
 of_inputs = refl
 
 -- a run beside another kind is not looked at
@@ -81,5 +81,5 @@ others :
     ∷ 10 ∷ 0 ∷ 0 ∷ 10
     ∷ 1 ∷ 2 ∷ 1 ∷ 2
     ∷ []
-unfolding form form_of body_form other_form outside if◌then◌else◌
+unfolding form form_of body_form other_form outside when◌then◌else◌
 others = refl

@@ -1,7 +1,7 @@
 -- Document 01, "Message records from wire.rs", and the malformed reasons: lowest number wins, only those that fit the
 -- kind. Assumes nothing.
 use Rattle.std.specs.Prelude.{ℕ, ◌+◌, ◌*◌, not, List, eqb, ltb, length}
-use Rattle.logic.specs.Test.{if◌then◌else◌}
+use Rattle.logic.specs.Test.{when◌then◌else◌}
 use Rattle.logic.specs.Range.{outside}
 use Rattle.logic.specs.Saturating.{most}
 use Rattle.peer.specs.Seats.{seats}
@@ -44,25 +44,25 @@ form_no (Malformed e) = reason_no e
 -- Hello: 3 peer count, 4 width, 5 delay, 6 period
 unfoldable pub hello_form : HelloBody → Form
 hello_form h =
-    if outside min_peers seats h.count then Malformed (PeerCount h.count min_peers seats)
-    else if outside 1 max_width h.width then Malformed (InputBytes h.width max_width)
-    else if ltb max_delay h.delay then Malformed (InputDelay h.delay window)
-    else if eqb h.period 0 then Malformed DigestPeriodZero
+    when outside min_peers seats h.count then Malformed (PeerCount h.count min_peers seats)
+    else when outside 1 max_width h.width then Malformed (InputBytes h.width max_width)
+    else when ltb max_delay h.delay then Malformed (InputDelay h.delay window)
+    else when eqb h.period 0 then Malformed DigestPeriodZero
     else Good
 
 -- Inputs, with the length of its run: 4 width, 7 frame count not 1..8, 8 run length not count times width, 9 first tick
 -- plus count above 2^64-1
 unfoldable pub inputs_form : InputsBody → ℕ → Form
 inputs_form i run =
-    if outside 1 max_width i.width then Malformed (InputBytes i.width max_width)
-    else if outside 1 redundancy i.count then Malformed (FrameCount i.count redundancy)
-    else if not (eqb run (i.count * i.width)) then Malformed (RunLength (i.count * i.width) run)
-    else if ltb most (i.first + i.count) then Malformed (TickOverflow i.first i.count)
+    when outside 1 max_width i.width then Malformed (InputBytes i.width max_width)
+    else when outside 1 redundancy i.count then Malformed (FrameCount i.count redundancy)
+    else when not (eqb run (i.count * i.width)) then Malformed (RunLength (i.count * i.width) run)
+    else when ltb most (i.first + i.count) then Malformed (TickOverflow i.first i.count)
     else Good
 
 -- another kind: 10 not 1..4
 unfoldable pub other_form : ℕ → Form
-other_form kind = if outside 1 4 kind then Malformed (UnknownKind kind) else Good
+other_form kind = when outside 1 4 kind then Malformed (UnknownKind kind) else Good
 
 -- the reasons that fit the kind
 unfoldable pub body_form : Body → ℕ → Form
@@ -75,6 +75,6 @@ body_form (Other kind) run = other_form kind
 -- of every kind: 1 sender above 7, 2 session 0; then its own
 unfoldable pub form_of : Message → List ℕ → Form
 form_of m run =
-    if not (ltb m.sender seats) then Malformed (SenderPastCeiling m.sender seats)
-    else if eqb m.session 0 then Malformed SessionZero
+    when not (ltb m.sender seats) then Malformed (SenderPastCeiling m.sender seats)
+    else when eqb m.session 0 then Malformed SessionZero
     else body_form m.body (length run)

@@ -4,7 +4,7 @@ use mathlib.Core.Bool.{not}
 use lib.Dec.{eqb}
 use borrow.Author.Rules.{rules}
 use borrow.Author.Tests.{eq-eqb, ne_eqb, not-true, not-false}
-use Rattle.logic.specs.Test.{if◌then◌else◌}
+use Rattle.logic.specs.Test.{when◌then◌else◌}
 use Rattle.logic.proofs.Cases.{if_false}
 use Rattle.peer.specs.Seats.{has}
 use Rattle.params.specs.Params.{roster_of}
@@ -22,8 +22,8 @@ header : (c : Else-sender-source) → let a = c.args in
     (prints_of a.held.now a.printed.now a.states.now a.inputs.now) in
     let m = a.message in
     from_header s a.source m a.run.now
-    ≡ if eqb m.sender s.head.params.local then refuse s FromSelf
-    else if not (has (roster_of s.head.params) m.sender) then refuse s (NotInRoster m.sender)
+    ≡ when eqb m.sender s.head.params.local then refuse s FromSelf
+    else when not (has (roster_of s.head.params) m.sender) then refuse s (NotInRoster m.sender)
     else accept s m.sender m.body a.run.now
 unfolding from_header
 header c = if_false _ _ (ap not (eq-eqb _ _ c.if-message-h.false)) ∙ if_false _ _ (ap not (eq-eqb _ _ c.if-sender-source.false))
@@ -34,21 +34,21 @@ in_roster : (c : After-contains) →
 in_roster c = rw (← c.roster.ensures) (sym c.contains.ensures)
 
 pub returns-then-message-h : goal.returns-then-message-h
-unfolding from_header if◌then◌else◌
+unfolding from_header when◌then◌else◌
 returns-then-message-h c = rw (ne_eqb _ _ c.if-message-h.true, c.refuse.ensures)
 
 pub returns-then-sender-source : goal.returns-then-sender-source
-unfolding from_header if◌then◌else◌
+unfolding from_header when◌then◌else◌
 returns-then-sender-source c =
     rw (eq-eqb _ _ c.if-message-h.false, ne_eqb _ _ c.if-sender-source.true, c.refuse-then-sender-source.ensures)
 
 pub returns-then-sender-h : goal.returns-then-sender-h
-unfolding if◌then◌else◌
+unfolding when◌then◌else◌
 returns-then-sender-h c =
     rw (header (goal.at.returns-then-sender-h c).Else-sender-source, eq-eqb _ _ c.if-sender-h.true, c.refuse-then-sender-h.ensures)
 
 pub returns-then-not-contains : goal.returns-then-not-contains
-unfolding if◌then◌else◌
+unfolding when◌then◌else◌
 returns-then-not-contains c =
     rw (
       header (goal.at.returns-then-not-contains c).Else-sender-source,
@@ -59,7 +59,7 @@ returns-then-not-contains c =
     )
 
 pub returns : goal.returns
-unfolding if◌then◌else◌
+unfolding when◌then◌else◌
 returns c =
     rw (
       header (goal.at.returns c).Else-sender-source,

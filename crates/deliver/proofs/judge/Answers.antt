@@ -1,15 +1,15 @@
 -- `deliver::judge` meets its contract. Assumes nothing.
 use borrow.Author.Rules.{rules}
-use Rattle.logic.specs.Test.{if◌then◌else◌}
+use Rattle.logic.specs.Test.{when◌then◌else◌}
 use Rattle.deliver.specs.Deliver.{judged}
 use Rattle.deliver.proofs.judge.Goals as goal
 
 pub returns-then-parted : goal.returns-then-parted
-unfolding judged if◌then◌else◌
+unfolding judged when◌then◌else◌
 returns-then-parted c = λ w.
     rw (← c.remotes.ensures, ← c.parted.ensures, c.if-parted.true, c.end.ensures)
 
 pub returns : goal.returns
-unfolding judged if◌then◌else◌
+unfolding judged when◌then◌else◌
 returns c = λ w.
     rw (← c.remotes.ensures, ← c.parted.ensures, c.if-parted.false, c.accepted.ensures)

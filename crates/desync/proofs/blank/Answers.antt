@@ -1,5 +1,4 @@
 -- `desync::blank` meets its contract. Assumes nothing.
-use borrow.Author.Rules.{rules}
 use Rattle.desync.specs.Asked.{blank_report}
 use Rattle.desync.proofs.blank.Goals as goal
 

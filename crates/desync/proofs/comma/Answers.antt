@@ -1,5 +1,4 @@
 -- `desync::comma` meets its contract. Assumes nothing.
-use borrow.Author.Rules.{rules}
 use Rattle.desync.specs.Json.{comma}
 use Rattle.desync.proofs.Loops.{comma_some}
 use Rattle.desync.proofs.comma.Goals as goal

@@ -1,5 +1,4 @@
 -- `desync::desync_report` meets its contract. Assumes nothing.
-use borrow.Author.Rules.{rules}
 use Rattle.desync.proofs.desync_report.Goals as goal
 
 pub returns : goal.returns

@@ -1,5 +1,4 @@
 -- `desync::desync_report_in` meets its contract. Assumes nothing.
-use borrow.Author.Rules.{rules}
 use Rattle.desync.specs.Asked.{desync_report}
 use Rattle.desync.proofs.desync_report_in.Goals as goal
 

@@ -1,7 +1,5 @@
 -- `desync::differs` meets its contract. Assumes nothing.
 use mathlib.Core.Path.{sym, ◌∙◌}
-use borrow.Author.Rules.{rules}
-use borrow.Author.Tests.{not-true, not-false}
 use Rattle.desync.specs.Report.{differs}
 use Rattle.desync.proofs.differs.Goals as goal
 

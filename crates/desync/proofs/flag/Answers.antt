@@ -1,5 +1,4 @@
 -- `desync::flag` meets its contract. Assumes nothing.
-use borrow.Author.Rules.{rules}
 use Rattle.desync.specs.Json.{flag_text}
 use Rattle.desync.proofs.flag.Goals as goal
 

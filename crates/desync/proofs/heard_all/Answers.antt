@@ -1,15 +1,12 @@
 -- `desync::heard_all` meets its contract: the seats so far are heard. Assumes nothing.
 use mathlib.Core.Path.{◌≡◌, refl, sym, ◌∙◌}
-use mathlib.Core.Logic.{⊎_elim}
-use Prim.Native.Nat.{◌-◌}
 use native.Mathlib.Omega.{arith}
-use borrow.Author.Rules.{rules}
-use Rattle.logic.proofs.Tabulated.{Filled, filled_none, filled_more, filled_all}
+use Rattle.logic.proofs.Tabulated.{filled_none, filled_more, filled_all}
 use Rattle.peer.specs.Seats.{seats}
-use Rattle.peer.proofs.Loops.{built, built_none, built_with, built_skip, built_all}
-use Rattle.fingerprint.specs.Cells.{prints_of}
-use Rattle.desync.specs.Report.{print_in, is_held, heard_from, heard_all}
+use Rattle.peer.proofs.Loops.{built_none, built_with, built_skip, built_all}
+use Rattle.desync.specs.Report.{heard_all}
 use Rattle.desync.proofs.heard_all.Goals as goal
+use Rattle.desync.proofs.heard_all.Goals.{then-is_held, else-is_held}
 
 pub loop-seat-init : goal.loop-seat-init
 loop-seat-init c = (sym (built_none _ _), filled_none refl, filled_none refl)
@@ -17,12 +14,14 @@ loop-seat-init c = (sym (built_none _ _), filled_none refl, filled_none refl)
 pub loop-seat-preserved : goal.loop-seat-preserved
 loop-seat-preserved c =
     let i = c.loop-seat.invariant in (
-      ⊎_elim
-          (λ w. rw (w.2, w.1.ensures, i.0)
-          (built_with seats _ _ (rw (← c.heard_from-cell.ensures) (sym c.is_held_lem.ensures ∙ w.0.taken))))
-          (λ w. rw (w.1, i.0)
-          (built_skip seats _ _ (rw (← c.heard_from-cell.ensures) (sym c.is_held_lem.ensures ∙ w.0.left))))
-          c.if-is_held.branch,
+      elim c.if-is_held.branch [
+        | then-is_held w ↦
+            rw (w.there-is, w.with-there.ensures, i.0)
+            (built_with seats _ _ (rw (← c.heard_from-cell.ensures) (sym c.is_held.ensures ∙ w.if-is_held.true)))
+        | else-is_held w ↦
+            rw (w.there-is, i.0)
+            (built_skip seats _ _ (rw (← c.heard_from-cell.ensures) (sym c.is_held.ensures ∙ w.if-is_held.false)))
+      ],
       filled_more i.1 (omega arith) (rw (c.print_in-print.ensures, c.heard_from-cell.ensures)),
       filled_more i.2 (omega arith) (rw (c.print_in-print.ensures, c.heard_from-cell.ensures)),
     )

@@ -9,11 +9,10 @@ use Rattle.desync.proofs.last_tick.Goals as goal
 pub returns-in-At : goal.returns-in-At
 unfolding tick_text
 returns-in-At c =
-    let last = c.before.before.before.last.given in
-    rw last.1 (c.number.ensures, tick_length (At last.0.0) (omega arith))
+    rw c.in-At.is (record { writes = c.number.ensures; tick_within_20 = tick_length (At c.in-At.tick) (search rules) })
 
 pub returns-in-Never : goal.returns-in-Never
 unfolding tick_text
 returns-in-Never c =
     rw c.in-Never.is
-    (rw (← c.piece-named.ensures) c.piece.ensures, omega arith)
+    (record { writes = rw (← c.piece-named.ensures) c.piece.ensures; tick_within_20 = omega arith })

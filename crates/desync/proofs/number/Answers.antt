@@ -1,5 +1,4 @@
 -- `desync::number` meets its contract. Assumes nothing.
-use borrow.Author.Rules.{rules}
 use Rattle.desync.proofs.number.Goals as goal
 
 pub returns : goal.returns

@@ -1,5 +1,4 @@
 -- `desync::parted_at` meets its contract. Assumes nothing.
-use borrow.Author.Rules.{rules}
 use Rattle.desync.proofs.parted_at.Goals as goal
 
 pub returns-in-Desynced : goal.returns-in-Desynced

@@ -1,5 +1,4 @@
 -- `desync::print_in` meets its contract. Assumes nothing.
-use borrow.Author.Rules.{rules}
 use Rattle.desync.proofs.print_in.Goals as goal
 
 pub returns-in-Empty : goal.returns-in-Empty

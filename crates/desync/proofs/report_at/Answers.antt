@@ -1,5 +1,4 @@
 -- `desync::report_at` meets its contract. Assumes nothing.
-use borrow.Author.Rules.{rules}
 use Rattle.desync.specs.Report.{report_at}
 use Rattle.desync.proofs.report_at.Goals as goal
 

@@ -1,5 +1,4 @@
 -- `desync::report_for` meets its contract. Assumes nothing.
-use borrow.Author.Rules.{rules}
 use Rattle.desync.specs.Asked.{report_for}
 use Rattle.desync.proofs.report_for.Goals as goal
 

@@ -1,10 +1,7 @@
-use mathlib.Core.Path.{◌≡◌, sym, ◌∙◌}
-use mathlib.Core.Logic.{⊎_elim}
+use mathlib.Core.Path.{◌≡◌}
 use Prim.Native.Nat.{◌≤◌, ◌-◌}
-use native.Mathlib.Omega.{arith}
-use borrow.Author.Rules.{rules}
 use Rattle.peer.specs.Seats.{seats}
-use Rattle.peer.proofs.Loops.{built, built_none, built_with, built_skip, built_all}
+use Rattle.peer.proofs.Loops.{built}
 use Rattle.desync.specs.Report.{differs}
 use Rattle.desync.proofs.unlike.Given as goal
 

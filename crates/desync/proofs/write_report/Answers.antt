@@ -1,5 +1,4 @@
 -- `desync::write_report` meets its contract. Assumes nothing.
-use borrow.Author.Rules.{rules}
 use Rattle.desync.proofs.write_report.Goals as goal
 
 pub returns : goal.returns

@@ -1,5 +1,4 @@
 -- `desync::write_report_in` meets its contract. Assumes nothing.
-use borrow.Author.Rules.{rules}
 use Rattle.desync.proofs.write_report_in.Goals as goal
 
 pub returns : goal.returns

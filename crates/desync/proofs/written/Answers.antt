@@ -1,5 +1,4 @@
 -- `desync::written` meets its contract. Assumes nothing.
-use borrow.Author.Rules.{rules}
 use Rattle.desync.proofs.written.Goals as goal
 
 pub returns-in-Written : goal.returns-in-Written

@@ -1,22 +1,15 @@
 -- `fingerprint::all_agree` meets its contract: the loop's invariant says that no remote below `seat`
 -- denies the print. Assumes nothing.
 use mathlib.Core.Path.{◌≡◌, sym, ◌∙◌}
-use mathlib.Core.Bool.{Bool, true, false, not, ◌||◌, or-true}
-use mathlib.Core.Logic.{⊎_elim}
-use Prim.Native.Nat.{ℕ, ◌≤◌, ◌<◌, ◌-◌}
+use mathlib.Core.Bool.{true, false, or-true}
 use native.Mathlib.Omega.{arith}
-use borrow.Author.Rules.{rules}
-use borrow.Author.Tests.{not-true, not-false}
 use borrow.Author.Count.{below_more}
 use Rattle.peer.specs.Seats.{seats, has}
 use Rattle.peer.proofs.Loops.{every_all, every-not}
-use Rattle.fingerprint.specs.declared.Fingerprint.{Fingerprint}
-use Rattle.fingerprint.specs.declared.Fingerprints.{Fingerprints}
 use Rattle.fingerprint.specs.Cells.{prints_of, remote_for}
 use Rattle.fingerprint.specs.Judging.{agrees, all_agree}
 use Rattle.fingerprint.proofs.all_agree.Goals as goal
 use Rattle.fingerprint.proofs.all_agree.Goals.{then-contains+else-not-agrees, else-contains}
-use Rattle.fingerprint.proofs.all_agree.Invariants.{passes}
 
 pub loop-seat-init : goal.loop-seat-init
 loop-seat-init c = (omega arith, λ k l. absurd (omega arith))

@@ -1,17 +1,11 @@
-use mathlib.Core.Path.{◌≡◌, sym, ◌∙◌}
-use mathlib.Core.Bool.{Bool, true, false, not, ◌||◌, or-true}
-use mathlib.Core.Logic.{⊎_elim}
+use mathlib.Core.Path.{◌≡◌}
+use mathlib.Core.Bool.{Bool, true, not, ◌||◌}
 use Prim.Native.Nat.{ℕ, ◌≤◌, ◌<◌, ◌-◌}
-use native.Mathlib.Omega.{arith}
-use borrow.Author.Rules.{rules}
-use borrow.Author.Tests.{not-true, not-false}
-use borrow.Author.Count.{below_more}
 use Rattle.peer.specs.Seats.{seats, has}
-use Rattle.peer.proofs.Loops.{every_all, every-not}
 use Rattle.fingerprint.specs.declared.Fingerprint.{Fingerprint}
 use Rattle.fingerprint.specs.declared.Fingerprints.{Fingerprints}
 use Rattle.fingerprint.specs.Cells.{prints_of, remote_for}
-use Rattle.fingerprint.specs.Judging.{agrees, all_agree}
+use Rattle.fingerprint.specs.Judging.{agrees}
 use Rattle.fingerprint.proofs.all_agree.Given as goal
 
 -- seat k does not deny the print

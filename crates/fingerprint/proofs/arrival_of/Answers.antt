@@ -1,5 +1,4 @@
 -- `fingerprint::arrival_of` meets its contract. Assumes nothing.
-use borrow.Author.Rules.{rules}
 use Rattle.fingerprint.specs.Judging.{arrival}
 use Rattle.fingerprint.proofs.arrival_of.Goals as goal
 

@@ -1,13 +1,12 @@
 -- `fingerprint::cell_at` meets its contract: the mark decides. Assumes nothing.
 use mathlib.Core.Path.{sym, ◌∙◌}
-use borrow.Author.Rules.{rules}
-use Rattle.logic.specs.Test.{if◌then◌else◌}
+use Rattle.logic.specs.Test.{when◌then◌else◌}
 use Rattle.logic.proofs.Cases.{if_false}
 use Rattle.fingerprint.specs.Cells.{cell_at}
 use Rattle.fingerprint.proofs.cell_at.Goals as goal
 
 pub returns-then-mark_at : goal.returns-then-mark_at
-unfolding cell_at if◌then◌else◌
+unfolding cell_at when◌then◌else◌
 returns-then-mark_at c =
     rw (
       sym c.mark_at.ensures ∙ c.if-mark_at.true,

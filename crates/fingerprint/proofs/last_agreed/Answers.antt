@@ -1,12 +1,9 @@
 -- `fingerprint::last_agreed` meets its contract: the loop's invariant says that `best` is the highest
 -- that the cells so far offer. Assumes nothing.
 use mathlib.Core.Path.{◌≡◌, refl}
-use Prim.Native.Nat.{◌≤◌, ◌-◌}
 use native.Mathlib.Numerals.{add-one}
 use native.Mathlib.Omega.{arith}
-use borrow.Author.Rules.{rules}
 use Rattle.peer.specs.Cells.{history}
-use Rattle.fingerprint.specs.Cells.{prints_of}
 use Rattle.fingerprint.specs.LastAgreed.{agreed_in, last_agreed}
 use Rattle.fingerprint.proofs.last_agreed.Goals as goal
 

@@ -1,11 +1,8 @@
-use mathlib.Core.Path.{◌≡◌, refl}
+use mathlib.Core.Path.{◌≡◌}
 use Prim.Native.Nat.{◌≤◌, ◌-◌}
-use native.Mathlib.Numerals.{add-one}
-use native.Mathlib.Omega.{arith}
-use borrow.Author.Rules.{rules}
 use Rattle.peer.specs.Cells.{history}
 use Rattle.fingerprint.specs.Cells.{prints_of}
-use Rattle.fingerprint.specs.LastAgreed.{agreed_in, last_agreed}
+use Rattle.fingerprint.specs.LastAgreed.{agreed_in}
 use Rattle.fingerprint.proofs.last_agreed.Given as goal
 
 abbrev pub invariant-loop-cell : goal.invariant-loop-cell

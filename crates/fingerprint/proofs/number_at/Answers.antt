@@ -1,7 +1,6 @@
 -- `fingerprint::number_at` meets its contract: past the end there is nothing. Assumes nothing.
 use mathlib.Core.Path.{sym}
 use lib.ListN.{get_or-eq_default}
-use borrow.Author.Rules.{rules}
 use Rattle.fingerprint.proofs.number_at.Goals as goal
 
 pub returns : goal.returns

@@ -1,17 +1,16 @@
 -- `fingerprint::offer` meets its contract: each return goes by the tests on its way. Assumes nothing.
-use borrow.Author.Rules.{rules}
 use borrow.Author.Tests.{lt-ltb, le-ltb}
-use Rattle.logic.specs.Test.{if◌then◌else◌}
+use Rattle.logic.specs.Test.{when◌then◌else◌}
 use Rattle.fingerprint.specs.LastAgreed.{offer}
 use Rattle.fingerprint.proofs.offer.Goals as goal
 
 pub returns-then-mine-tick : goal.returns-then-mine-tick
-unfolding offer if◌then◌else◌
+unfolding offer when◌then◌else◌
 returns-then-mine-tick c =
     rw (← c.cell_at-own.ensures, c.in-Holds.is, le-ltb _ _ c.if-mine-tick.true)
 
 pub returns-then-all_agree : goal.returns-then-all_agree
-unfolding offer if◌then◌else◌
+unfolding offer when◌then◌else◌
 returns-then-all_agree c =
     rw (
       ← c.cell_at-own.ensures,
@@ -26,7 +25,7 @@ unfolding offer
 returns-in-Empty c = rw (← c.cell_at-own.ensures, c.in-Empty.is)
 
 pub returns-else-all_agree : goal.returns-else-all_agree
-unfolding offer if◌then◌else◌
+unfolding offer when◌then◌else◌
 returns-else-all_agree c =
     rw (
       ← c.cell_at-own.ensures,

@@ -1,5 +1,4 @@
 -- `fingerprint::own` meets its contract. Assumes nothing.
-use borrow.Author.Rules.{rules}
 use Rattle.fingerprint.specs.Cells.{own}
 use Rattle.fingerprint.proofs.own.Goals as goal
 

@@ -1,5 +1,4 @@
 -- `fingerprint::own_cell` meets its contract. Assumes nothing.
-use borrow.Author.Rules.{rules}
 use Rattle.fingerprint.specs.Cells.{own_cell}
 use Rattle.fingerprint.proofs.own_cell.Goals as goal
 

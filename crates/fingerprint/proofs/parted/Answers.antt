@@ -1,6 +1,5 @@
 -- `fingerprint::parted` meets its contract: one's own print for the tick has that tick. Assumes nothing.
 use mathlib.Core.Path.{sym, ◌∙◌}
-use borrow.Author.Rules.{rules}
 use Rattle.fingerprint.specs.Cells.{own_for}
 use Rattle.fingerprint.specs.Judging.{parted_by, parted}
 use Rattle.fingerprint.proofs.Laws.{of_tick_holds}

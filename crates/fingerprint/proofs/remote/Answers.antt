@@ -1,5 +1,4 @@
 -- `fingerprint::remote` meets its contract. Assumes nothing.
-use borrow.Author.Rules.{rules}
 use Rattle.fingerprint.specs.Cells.{remote}
 use Rattle.fingerprint.proofs.remote.Goals as goal
 

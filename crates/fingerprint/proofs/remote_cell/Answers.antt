@@ -1,6 +1,5 @@
 -- `fingerprint::remote_cell` meets its contract. Assumes nothing.
 use native.Mathlib.Omega.{arith}
-use borrow.Author.Rules.{rules}
 use Rattle.fingerprint.specs.Cells.{remote_cell}
 use Rattle.fingerprint.proofs.Laws.{own_cell_lt}
 use Rattle.fingerprint.proofs.remote_cell.Goals as goal

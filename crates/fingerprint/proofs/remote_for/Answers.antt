@@ -1,5 +1,4 @@
 -- `fingerprint::remote_for` meets its contract. Assumes nothing.
-use borrow.Author.Rules.{rules}
 use Rattle.fingerprint.specs.Cells.{remote_for}
 use Rattle.fingerprint.proofs.remote_for.Goals as goal
 

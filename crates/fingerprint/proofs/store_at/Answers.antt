@@ -1,5 +1,4 @@
 -- `fingerprint::store_at` meets its contract. Assumes nothing.
-use borrow.Author.Rules.{rules}
 use Rattle.fingerprint.specs.Cells.{stored_at}
 use Rattle.fingerprint.proofs.store_at.Goals as goal
 

@@ -1,5 +1,4 @@
 -- `fingerprint::store_own` meets its contract. Assumes nothing.
-use borrow.Author.Rules.{rules}
 use Rattle.fingerprint.specs.Cells.{with_own}
 use Rattle.fingerprint.proofs.store_own.Goals as goal
 

@@ -1,5 +1,4 @@
 -- `fingerprint::store_remote` meets its contract. Assumes nothing.
-use borrow.Author.Rules.{rules}
 use Rattle.fingerprint.specs.Cells.{with_remote}
 use Rattle.fingerprint.proofs.store_remote.Goals as goal
 

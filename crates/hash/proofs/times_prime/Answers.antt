@@ -1,6 +1,6 @@
 -- `hash::times_prime` meets its contract: the prime is 2^40 + 435, so a value times the prime is the value times each of
 -- the two, added modulo 2^64. Assumes nothing.
-use Rattle.std.proofs.Common.{◌≡◌, ℕ, ◌+◌, ◌*◌, ◌%◌, ◌∙◌, mul-add, rules}
+use Rattle.std.proofs.Common.{◌≡◌, ℕ, ◌+◌, ◌*◌, ◌%◌, ◌∙◌, mul-add}
 use native.Mathlib.Nat.{add-mod-mod, mod-add-mod}
 use Rattle.hash.proofs.times_prime.Goals as goal
 

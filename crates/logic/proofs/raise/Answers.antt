@@ -1,6 +1,5 @@
 -- `logic::raise` meets its contract. Assumes nothing.
 use native.Mathlib.Omega.{arith}
-use borrow.Author.Rules.{rules}
 use Rattle.logic.specs.Saturating.{raised}
 use Rattle.logic.proofs.raise.Goals as goal
 

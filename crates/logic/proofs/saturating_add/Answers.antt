@@ -1,6 +1,5 @@
 -- `logic::saturating_add` meets its contract. Assumes nothing.
 use native.Mathlib.Omega.{arith}
-use borrow.Author.Rules.{rules}
 use Rattle.logic.specs.Saturating.{sum}
 use Rattle.logic.proofs.saturating_add.Goals as goal
 

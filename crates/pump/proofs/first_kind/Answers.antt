@@ -3,7 +3,7 @@ use mathlib.Core.Path.{◌≡◌, sym, ap, ◌∙◌}
 use mathlib.Core.Bool.{Bool, ◌&&◌}
 use borrow.Author.Rules.{rules}
 use borrow.Author.Tests.{not-true, not-false}
-use Rattle.logic.specs.Test.{if◌then◌else◌}
+use Rattle.logic.specs.Test.{when◌then◌else◌}
 use Rattle.logic.proofs.Cases.{if_true, if_false}
 use Rattle.peer.specs.Seats.{seats, is_subset}
 use Rattle.params.specs.Params.{remotes_of}
@@ -15,7 +15,7 @@ use Rattle.pump.proofs.first_kind.Goals.{In_default, After-subset}
 
 -- past an outcome, and past joining
 going : (c : In_default) → let h = c.args.h in
-    first_kind h ≡ if is_playing h && is_subset seats (remotes_of h.params) h.marks.playing then Inputs else Hello
+    first_kind h ≡ when is_playing h && is_subset seats (remotes_of h.params) h.marks.playing then Inputs else Hello
 unfolding first_kind
 going c = if_false _ _ (ap is_over c.in_default.is)
 

@@ -1,7 +1,7 @@
 -- `pump::pump_hello` meets its contract. Assumes nothing.
 use mathlib.Core.Path.{◌≡◌, sym, ◌∙◌}
 use borrow.Author.Rules.{rules}
-use Rattle.logic.specs.Test.{if◌then◌else◌}
+use Rattle.logic.specs.Test.{when◌then◌else◌}
 use Rattle.logic.proofs.Cases.{if_true, if_false}
 use Rattle.window.specs.Window.{window_of}
 use Rattle.session.specs.Session.{is_playing}
@@ -22,7 +22,7 @@ returns-in-To c =
 -- with nothing said, what comes after the kind
 rest : (c : In_default) → let a = c.args in
     let w = window_of a.ring.now a.ticks.now a.present.now in
-    pump_hello a.h w a.place ≡ if is_playing a.h then pump_inputs a.h w 0 else pass_ends a.h
+    pump_hello a.h w a.place ≡ when is_playing a.h then pump_inputs a.h w 0 else pass_ends a.h
 unfolding pump_hello
 rest c =
     let a = c.args in

@@ -1,11 +1,7 @@
 -- `rows::row_at` meets its contract: the row is filled from the front. Assumes nothing.
-use mathlib.Core.Path.{refl, ◌∙◌}
-use Prim.Native.Nat.{◌-◌}
+use mathlib.Core.Path.{◌∙◌}
 use native.Mathlib.Omega.{arith}
-use lib.ListN.{get_or, take, drop}
-use borrow.Author.Rules.{rules}
-use Rattle.logic.proofs.Tabulated.{Filled, filled_none, filled_more, filled_all}
-use Rattle.params.specs.Params.{max_width}
+use Rattle.logic.proofs.Tabulated.{filled_more, filled_all}
 use Rattle.rows.specs.Rows.{padded}
 use Rattle.rows.proofs.Loops.{byte_of}
 use Rattle.rows.proofs.row_at.Goals as goal

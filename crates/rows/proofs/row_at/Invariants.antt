@@ -1,12 +1,7 @@
-use mathlib.Core.Path.{refl, ◌∙◌}
 use Prim.Native.Nat.{◌-◌}
-use native.Mathlib.Omega.{arith}
 use lib.ListN.{get_or, take, drop}
-use borrow.Author.Rules.{rules}
-use Rattle.logic.proofs.Tabulated.{Filled, filled_none, filled_more, filled_all}
+use Rattle.logic.proofs.Tabulated.{Filled}
 use Rattle.params.specs.Params.{max_width}
-use Rattle.rows.specs.Rows.{padded}
-use Rattle.rows.proofs.Loops.{byte_of}
 use Rattle.rows.proofs.row_at.Given as goal
 
 abbrev pub invariant-loop-i : goal.invariant-loop-i

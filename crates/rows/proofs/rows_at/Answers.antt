@@ -1,16 +1,9 @@
 -- `rows::rows_at` meets its contract: the rows are filled from the front. Assumes nothing.
-use mathlib.Core.Path.{refl, ◌∙◌}
-use mathlib.Core.List.{[]}
-use Prim.Native.Nat.{◌-◌}
+use mathlib.Core.Path.{◌∙◌}
 use native.Mathlib.Omega.{arith}
-use lib.Dec.{ltb}
-use lib.ListN.{take, drop}
-use borrow.Author.Rules.{rules}
-use Rattle.logic.specs.Test.{if◌then◌else◌}
-use Rattle.logic.proofs.Tabulated.{Filled, filled_none, filled_more, filled_all}
-use Rattle.peer.specs.Seats.{seats}
-use Rattle.window.specs.Window.{frame_start, frame_of}
-use Rattle.rows.specs.Rows.{padded, rows_of}
+use Rattle.logic.proofs.Tabulated.{filled_more, filled_all}
+use Rattle.window.specs.Window.{frame_of}
+use Rattle.rows.specs.Rows.{rows_of}
 use Rattle.rows.proofs.Loops.{take_if}
 use Rattle.rows.proofs.rows_at.Goals as goal
 

@@ -1,15 +1,13 @@
 -- `rows::step_digest` meets its contract. The invariant: absorbing the rows that are left gives what absorbing all of
 -- them gives after the tick. Assumes nothing.
 use mathlib.Core.Path.{◌≡◌, sym, ◌∙◌}
-use Prim.Native.Nat.{◌≤◌, ◌-◌}
 use native.Mathlib.Nat.{sub-zero}
 use native.Mathlib.Omega.{arith}
 use borrow.Author.Rules.{rules}
-use lib.ListN.{length, drop}
-use Rattle.hash.specs.Fnv.{fnv}
+use lib.ListN.{length}
 use Rattle.hash.proofs.Laws.{fnv-append}
 use Rattle.peer.specs.Seats.{seats}
-use Rattle.rows.specs.Rows.{heads, step_digest}
+use Rattle.rows.specs.Rows.{step_digest}
 use Rattle.rows.proofs.Loops.{heads-row, heads_end}
 use Rattle.rows.proofs.step_digest.Goals as goal
 

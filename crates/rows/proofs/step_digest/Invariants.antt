@@ -1,14 +1,8 @@
-use mathlib.Core.Path.{◌≡◌, sym, ◌∙◌}
+use mathlib.Core.Path.{◌≡◌}
 use Prim.Native.Nat.{◌≤◌, ◌-◌}
-use native.Mathlib.Nat.{sub-zero}
-use native.Mathlib.Omega.{arith}
-use borrow.Author.Rules.{rules}
-use lib.ListN.{length, drop}
+use lib.ListN.{drop}
 use Rattle.hash.specs.Fnv.{fnv}
-use Rattle.hash.proofs.Laws.{fnv-append}
-use Rattle.peer.specs.Seats.{seats}
-use Rattle.rows.specs.Rows.{heads, step_digest}
-use Rattle.rows.proofs.Loops.{heads-row, heads_end}
+use Rattle.rows.specs.Rows.{heads}
 use Rattle.rows.proofs.step_digest.Given as goal
 
 abbrev pub invariant-loop-k : goal.invariant-loop-k

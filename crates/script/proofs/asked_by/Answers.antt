@@ -5,32 +5,31 @@ use mathlib.Core.List.{List}
 use Prim.Native.Nat.{ℕ, ◌≤◌}
 use lib.Dec.{eqb}
 use lib.ListN.{length}
-use borrow.Author.Rules.{rules}
 use borrow.Author.Tests.{lt-ltb, le-ltb, eq-eqb, ne_eqb}
-use Rattle.logic.specs.Test.{if◌then◌else◌}
+use Rattle.logic.specs.Test.{when◌then◌else◌}
 use Rattle.script.specs.Records.{header, right_length, params_from, call_from, kind_of, payload_of, asked}
 use Rattle.script.specs.declared.Asked.TheVariants.{Open, Of}
 use Rattle.script.proofs.Laws.{from_on}
 use Rattle.script.proofs.asked_by.Goals as goal
 
 pub returns-then-bytes-lt-HEADER : goal.returns-then-bytes-lt-HEADER
-unfolding asked if◌then◌else◌
+unfolding asked when◌then◌else◌
 returns-then-bytes-lt-HEADER c = rw (lt-ltb _ _ c.if-bytes-lt-HEADER.true)
 
 -- past the two tests of its form, what a record asks
 good : (r : List ℕ) → header ≤ length r → right_length (kind_of r) (length (payload_of r)) ≡ true
-    → asked r ≡ if eqb (kind_of r) 1 then Open (params_from (payload_of r)) else Of (call_from (kind_of r) (payload_of r))
-unfolding asked if◌then◌else◌
+    → asked r ≡ when eqb (kind_of r) 1 then Open (params_from (payload_of r)) else Of (call_from (kind_of r) (payload_of r))
+unfolding asked when◌then◌else◌
 good r long right = rw (le-ltb _ _ long, right)
 
 pub returns-then-not-right_length : goal.returns-then-not-right_length
-unfolding asked if◌then◌else◌
+unfolding asked when◌then◌else◌
 returns-then-not-right_length c =
     rw (← c.le-kind.ensures.value, le-ltb _ _ c.if-bytes-lt-HEADER.false, ← from_on c.args.bytes.now 4)
     (rw (← c.right_length.ensures, c.if-not-right_length.true))
 
 pub returns-then-kind-eq1 : goal.returns-then-kind-eq1
-unfolding if◌then◌else◌
+unfolding when◌then◌else◌
 returns-then-kind-eq1 c =
     let r = c.args.bytes.now in
     let right : right_length (kind_of r) (length (payload_of r)) ≡ true =
@@ -44,7 +43,7 @@ returns-then-kind-eq1 c =
     )
 
 pub returns : goal.returns
-unfolding if◌then◌else◌
+unfolding when◌then◌else◌
 returns c =
     let r = c.args.bytes.now in
     let right : right_length (kind_of r) (length (payload_of r)) ≡ true =

@@ -1,6 +1,5 @@
 -- `script::byte_at` meets its contract. Assumes nothing.
 use mathlib.Core.Path.{sym}
-use borrow.Author.Rules.{rules}
 use Rattle.script.proofs.Laws.{past_end}
 use Rattle.script.proofs.byte_at.Goals as goal
 

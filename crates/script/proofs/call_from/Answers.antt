@@ -1,22 +1,21 @@
 -- `script::call_from` meets its contract: each kind by its own number. Assumes nothing.
 use Prim.Native.Nat.{◌≤◌}
 use native.Mathlib.Omega.{arith}
-use borrow.Author.Rules.{rules}
 use borrow.Author.Tests.{le-leb, lt-leb, ne_eqb}
-use Rattle.logic.specs.Test.{if◌then◌else◌}
+use Rattle.logic.specs.Test.{when◌then◌else◌}
 use Rattle.script.specs.Records.{call_from}
 use Rattle.script.proofs.call_from.Goals as goal
 
 pub returns-in-2 : goal.returns-in-2
-unfolding call_from if◌then◌else◌
+unfolding call_from when◌then◌else◌
 returns-in-2 c = rw c.in-2.is
 
 pub returns-in-8 : goal.returns-in-8
-unfolding call_from if◌then◌else◌
+unfolding call_from when◌then◌else◌
 returns-in-8 c = rw c.in-8.is
 
 pub returns-in-9 : goal.returns-in-9
-unfolding call_from if◌then◌else◌
+unfolding call_from when◌then◌else◌
 returns-in-9 c =
     rw (
       c.in-9.is,
@@ -26,15 +25,15 @@ returns-in-9 c =
     )
 
 pub returns-in-10 : goal.returns-in-10
-unfolding call_from if◌then◌else◌
+unfolding call_from when◌then◌else◌
 returns-in-10 c = rw c.in-10.is
 
 pub returns-in-11 : goal.returns-in-11
-unfolding call_from if◌then◌else◌
+unfolding call_from when◌then◌else◌
 returns-in-11 c = rw c.in-11.is
 
 pub returns-in-3-to-7 : goal.returns-in-3-to-7
-unfolding call_from if◌then◌else◌
+unfolding call_from when◌then◌else◌
 returns-in-3-to-7 c =
     let kind = c.args.kind in
     let three : 3 ≤ kind = omega arith in
@@ -47,7 +46,7 @@ returns-in-3-to-7 c =
     )
 
 pub returns-in_default : goal.returns-in_default
-unfolding call_from if◌then◌else◌
+unfolding call_from when◌then◌else◌
 returns-in_default c =
     let kind = c.args.kind in
     rw (
@@ -60,7 +59,7 @@ returns-in_default c =
     )
 
 pub returns-in_default-2 : goal.returns-in_default-2
-unfolding call_from if◌then◌else◌
+unfolding call_from when◌then◌else◌
 returns-in_default-2 c =
     let kind = c.args.kind in
     rw (

@@ -1,10 +1,6 @@
-use mathlib.Core.Path.{◌≡◌, refl}
+use mathlib.Core.Path.{◌≡◌}
 use Prim.Native.Nat.{◌+◌, ◌-◌, ◌*◌, ◌^◌, ◌≤◌, ◌<◌}
-use native.Mathlib.Nat.{add-zero}
-use native.Mathlib.Omega.{arith}
-use borrow.Author.Rules.{rules}
 use Rattle.script.specs.Records.{le}
-use Rattle.script.proofs.Laws.{le_more, le_room, le_fits}
 use Rattle.script.proofs.le.Given as goal
 
 abbrev pub invariant-loop-i : goal.invariant-loop-i

@@ -1,5 +1,4 @@
 -- `script::message_from` meets its contract. Assumes nothing.
-use borrow.Author.Rules.{rules}
 use Rattle.script.specs.Records.{message_from}
 use Rattle.script.proofs.message_from.Goals as goal
 

@@ -1,5 +1,4 @@
 -- `script::params_from` meets its contract. Assumes nothing.
-use borrow.Author.Rules.{rules}
 use Rattle.script.specs.Records.{params_from}
 use Rattle.script.proofs.params_from.Goals as goal
 

@@ -1,19 +1,18 @@
 -- `script::record_size` meets its contract. Assumes nothing.
 use native.Mathlib.Omega.{arith}
-use borrow.Author.Rules.{rules}
 use borrow.Author.Tests.{lt-ltb, le-ltb}
-use Rattle.logic.specs.Test.{if◌then◌else◌}
+use Rattle.logic.specs.Test.{when◌then◌else◌}
 use Rattle.script.specs.Records.{record_size}
 use Rattle.script.proofs.record_size.Goals as goal
 
 pub returns-then-have-lt-HEADER : goal.returns-then-have-lt-HEADER
-unfolding record_size if◌then◌else◌
+unfolding record_size when◌then◌else◌
 returns-then-have-lt-HEADER c = record { value = rw (lt-ltb _ _ c.if-have-lt-HEADER.true); bytes_len_bound = λ e. omega (arith, c.if-have-lt-HEADER.true) }
 
 pub returns-then-have-size : goal.returns-then-have-size
-unfolding record_size if◌then◌else◌
+unfolding record_size when◌then◌else◌
 returns-then-have-size c = record { value = rw (le-ltb _ _ c.if-have-lt-HEADER.false, ← c.le.ensures.value, lt-ltb _ _ c.if-have-size.true); bytes_len_bound = λ e. omega (arith, c.if-have-size.true, c.le.ensures.upper_bound) }
 
 pub returns : goal.returns
-unfolding record_size if◌then◌else◌
+unfolding record_size when◌then◌else◌
 returns c = record { value = rw (le-ltb _ _ c.if-have-lt-HEADER.false, ← c.le.ensures.value, le-ltb _ _ c.if-have-size.false); bytes_len_bound = λ e. absurd (omega (arith, e)) }

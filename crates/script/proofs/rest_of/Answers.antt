@@ -1,9 +1,7 @@
 -- `script::rest_of` meets its contract. Assumes nothing.
 use mathlib.Core.Path.{◌≡◌, ap, ◌∙◌}
-use Prim.Native.Nat.{◌≤◌}
 use native.Mathlib.Omega.{arith}
 use lib.ListN.{length, drop}
-use borrow.Author.Rules.{rules}
 use Rattle.script.specs.Records.{kind_of, rest_start, rest_of}
 use Rattle.script.proofs.Laws.{from_on, rest_within}
 use Rattle.script.proofs.rest_of.Goals as goal

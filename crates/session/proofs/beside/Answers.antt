@@ -1,5 +1,4 @@
 -- `session::beside` meets its contract. Assumes nothing.
-use borrow.Author.Rules.{rules}
 use Rattle.session.proofs.beside.Goals as goal
 
 pub returns : goal.returns

@@ -1,5 +1,4 @@
 -- `session::idle` meets its contract. Assumes nothing.
-use borrow.Author.Rules.{rules}
 use Rattle.session.specs.Step.{no_rows}
 use Rattle.session.proofs.idle.Goals as goal
 

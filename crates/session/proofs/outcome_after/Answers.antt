@@ -1,5 +1,4 @@
 -- `session::outcome_after` meets its contract. Assumes nothing.
-use borrow.Author.Rules.{rules}
 use Rattle.session.proofs.outcome_after.Goals as goal
 
 pub returns-in-Open : goal.returns-in-Open

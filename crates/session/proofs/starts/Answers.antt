@@ -1,7 +1,5 @@
 -- `session::starts` meets its contract. Assumes nothing.
 use mathlib.Core.Path.{◌≡◌, sym}
-use borrow.Author.Rules.{rules}
-use borrow.Author.Tests.{not-true, not-false}
 use Rattle.peer.specs.Seats.{seats, is_subset}
 use Rattle.params.specs.Params.{roster_of}
 use Rattle.session.specs.Session.{starts}

@@ -3,7 +3,7 @@ use mathlib.Core.Path.{◌≡◌, sym, ap, ◌∙◌}
 use mathlib.Core.Bool.{false}
 use borrow.Author.Rules.{rules}
 use borrow.Author.Tests.{le-leb, lt-leb}
-use Rattle.logic.specs.Test.{if◌then◌else◌}
+use Rattle.logic.specs.Test.{when◌then◌else◌}
 use Rattle.logic.specs.Saturating.{sum}
 use Rattle.params.specs.Params.{bad_state}
 use Rattle.session.specs.Session.{is_over}
@@ -18,11 +18,11 @@ good : (c : Else-bad_state) → bad_state c.args.h.params ≡ false
 good c = sym c.bad_state.ensures ∙ c.if-bad_state.false
 
 pub returns-then-is_over : goal.returns-then-is_over
-unfolding wants_local if◌then◌else◌
+unfolding wants_local when◌then◌else◌
 returns-then-is_over c = rw (sym c.is_over.ensures ∙ c.if-is_over.true)
 
 pub returns-then-bad_state : goal.returns-then-bad_state
-unfolding wants_local if◌then◌else◌
+unfolding wants_local when◌then◌else◌
 returns-then-bad_state c = rw (going (goal.at.returns-then-bad_state c).Else-is_over, sym c.bad_state.ensures ∙ c.if-bad_state.true)
 
 -- the latest tick that a press is wanted for
@@ -33,12 +33,12 @@ latest c =
     c.saturating_add.ensures ∙ ap (sum h.play.pending) c.long.ensures
 
 pub returns-then-next-saturating_add : goal.returns-then-next-saturating_add
-unfolding wants_local if◌then◌else◌
+unfolding wants_local when◌then◌else◌
 returns-then-next-saturating_add c =
     rw (going (goal.at.returns-then-next-saturating_add c).Else-is_over, good (goal.at.returns-then-next-saturating_add c).Else-bad_state, ← latest (goal.at.returns-then-next-saturating_add c).After-saturating_add, lt-leb _ _ c.if-next-saturating_add.true)
 
 pub returns : goal.returns
-unfolding wants_local if◌then◌else◌
+unfolding wants_local when◌then◌else◌
 returns c =
     rw (
       going (goal.at.returns c).Else-is_over,

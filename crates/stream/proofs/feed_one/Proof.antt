@@ -4,7 +4,7 @@ use mathlib.Core.Logic.{◌≢◌}
 use native.Mathlib.Omega.{arith}
 use borrow.Author.Rules.{rules}
 use lib.ListN.{length}
-use Rattle.logic.specs.Test.{if◌then◌else◌}
+use Rattle.logic.specs.Test.{when◌then◌else◌}
 use Rattle.text.proofs.Writing.{put_said}
 use Rattle.script.specs.Records.{record_size}
 use Rattle.stream.specs.Stream.{bytes_of}
@@ -13,7 +13,7 @@ use Rattle.stream.proofs.feed_one.Statement.{statement}
 use Rattle.stream.proofs.feed_one.Tie as tie
 
 returns : tie.Need-returns
-unfolding bytes_of if◌then◌else◌
+unfolding bytes_of when◌then◌else◌
 returns c =
     let sized = c.before in
     let found = sized.before in

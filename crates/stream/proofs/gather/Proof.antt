@@ -5,7 +5,7 @@ use native.Mathlib.Omega.{arith}
 use borrow.Author.Rules.{rules}
 use lib.ListN.{length, take}
 use lib.Seq.{length-take-le}
-use Rattle.logic.specs.Test.{if◌then◌else◌}
+use Rattle.logic.specs.Test.{when◌then◌else◌}
 use Rattle.script.specs.Records.{longest, record_lacks}
 use Rattle.script.proofs.Laws.{lacks_short}
 use Rattle.stream.specs.Stream.{bytes_of}
@@ -14,7 +14,7 @@ use Rattle.stream.proofs.gather.Statement.{statement}
 use Rattle.stream.proofs.gather.Tie as tie
 
 returns : tie.Need-returns
-unfolding bytes_of if◌then◌else◌
+unfolding bytes_of when◌then◌else◌
 returns c =
     let sized = c.before in
     let none = sized.before in
@@ -34,7 +34,7 @@ slice-aggregate-put-within : tie.Need-slice-aggregate-put-within
 slice-aggregate-put-within c = sym (length-take-le _ _ (rw c.before.before.least.ensures (omega arith)))
 
 returns-2 : tie.Need-returns-2
-unfolding bytes_of if◌then◌else◌
+unfolding bytes_of when◌then◌else◌
 returns-2 c =
     let put_in = c.before.before in
     let fits_in = put_in.before.before.before in

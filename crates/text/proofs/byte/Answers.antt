@@ -1,5 +1,4 @@
 -- `text::byte` meets its contract: a piece of one byte. Assumes nothing.
-use borrow.Author.Rules.{rules}
 use Rattle.text.proofs.byte.Goals as goal
 
 pub returns : goal.returns

@@ -1,11 +1,8 @@
 -- `text::copy_from` meets its contract: the loop has put the front of the text over the front of the buffer.
 -- Assumes nothing.
-use Prim.Native.Nat.{◌≤◌, ◌-◌}
 use mathlib.Core.Path.{◌≡◌, refl, ◌∙◌}
-use mathlib.Core.List.{◌++◌}
 use native.Mathlib.Omega.{arith}
-use lib.ListN.{length, take, drop, length-set, length-take}
-use borrow.Author.Rules.{rules}
+use lib.ListN.{take, length-set, length-take}
 use Rattle.logic.proofs.Fronts.{take_min}
 use Rattle.text.proofs.Copying.{no_room, with_room}
 use Rattle.text.proofs.Loops.{copy_step}

@@ -1,12 +1,7 @@
 use Prim.Native.Nat.{◌≤◌, ◌-◌}
-use mathlib.Core.Path.{◌≡◌, refl, ◌∙◌}
+use mathlib.Core.Path.{◌≡◌}
 use mathlib.Core.List.{◌++◌}
-use native.Mathlib.Omega.{arith}
-use lib.ListN.{length, take, drop, length-set, length-take}
-use borrow.Author.Rules.{rules}
-use Rattle.logic.proofs.Fronts.{take_min}
-use Rattle.text.proofs.Copying.{no_room, with_room}
-use Rattle.text.proofs.Loops.{copy_step}
+use lib.ListN.{length, take, drop}
 use Rattle.text.proofs.copy_from.Given as goal
 
 abbrev pub invariant-loop-i : goal.invariant-loop-i

@@ -1,5 +1,4 @@
 -- `text::copy_out` meets its contract. Assumes nothing.
-use borrow.Author.Rules.{rules}
 use Rattle.text.proofs.copy_out.Goals as goal
 
 pub returns : goal.returns

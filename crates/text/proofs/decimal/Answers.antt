@@ -1,10 +1,9 @@
 -- `text::decimal` meets its contract: the digits go into `d` from the back. Assumes nothing.
-use Prim.Native.Nat.{suc, ◌+◌, ◌-◌, ◌<◌, ◌^◌}
+use Prim.Native.Nat.{◌+◌, ◌-◌}
 use mathlib.Core.Path.{◌≡◌, refl, sym, ◌∙◌}
-use mathlib.Core.List.{◌++◌, append-nil}
+use mathlib.Core.List.{append-nil}
 use native.Mathlib.Omega.{arith}
-use lib.ListN.{length, take, drop, set, length-set}
-use borrow.Author.Rules.{rules}
+use lib.ListN.{take, drop, set, length-set}
 use Rattle.text.specs.Decimal.{decimal}
 use Rattle.text.proofs.Loops.{tenth, decimal_back, decimal_front}
 use Rattle.text.proofs.decimal.Goals as goal

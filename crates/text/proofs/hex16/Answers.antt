@@ -1,11 +1,9 @@
 -- `text::hex16` meets its contract: the digits go into `d` from the back. Assumes nothing.
-use Prim.Native.Nat.{◌≤◌}
-use mathlib.Core.Path.{◌≡◌, refl, sym, ◌∙◌}
-use mathlib.Core.List.{◌++◌, append-nil}
+use mathlib.Core.Path.{refl, sym, ◌∙◌}
+use mathlib.Core.List.{append-nil}
 use native.Mathlib.Omega.{arith}
-use lib.ListN.{length, drop, length-set}
+use lib.ListN.{length-set}
 use borrow.Author.Rules.{rules}
-use Rattle.text.specs.Hex.{hex_digits}
 use Rattle.text.proofs.Loops.{hex_back, hex_done}
 use Rattle.text.proofs.hex16.Goals as goal
 

@@ -1,11 +1,8 @@
 use Prim.Native.Nat.{◌≤◌}
-use mathlib.Core.Path.{◌≡◌, refl, sym, ◌∙◌}
-use mathlib.Core.List.{◌++◌, append-nil}
-use native.Mathlib.Omega.{arith}
-use lib.ListN.{length, drop, length-set}
-use borrow.Author.Rules.{rules}
+use mathlib.Core.Path.{◌≡◌}
+use mathlib.Core.List.{◌++◌}
+use lib.ListN.{length, drop}
 use Rattle.text.specs.Hex.{hex_digits}
-use Rattle.text.proofs.Loops.{hex_back, hex_done}
 use Rattle.text.proofs.hex16.Given as goal
 
 abbrev pub invariant-loop-i : goal.invariant-loop-i

@@ -1,5 +1,4 @@
 -- `text::hex_byte` meets its contract: the upper digit, then the lower one. Assumes nothing.
-use borrow.Author.Rules.{rules}
 use Rattle.text.specs.Hex.{hex_digits}
 use Rattle.text.proofs.hex_byte.Goals as goal
 

@@ -1,13 +1,8 @@
-use Prim.Native.Nat.{◌≤◌, ◌<◌, ◌-◌}
+use Prim.Native.Nat.{◌≤◌, ◌-◌}
 use mathlib.Core.Path.{◌≡◌}
-use native.Mathlib.Omega.{arith}
 use lib.ListN.{length, take}
-use lib.Seq.{take_all}
-use borrow.Author.Rules.{rules}
 use Rattle.text.specs.Text.{page, put}
 use Rattle.text.specs.Hex.{hex_bytes}
-use Rattle.text.proofs.Writing.{put-append, put_on}
-use Rattle.text.proofs.Loops.{hex_bytes_more}
 use Rattle.text.proofs.hex_bytes.Given as goal
 
 abbrev pub invariant-loop-i : goal.invariant-loop-i

@@ -1,6 +1,5 @@
 -- `text::hex_digit` meets its contract. Assumes nothing.
 use mathlib.Core.Path.{sym}
-use borrow.Author.Rules.{rules}
 use borrow.Author.Tests.{lt-ltb, le-ltb}
 use Rattle.logic.proofs.Cases.{if_true, if_false}
 use Rattle.text.specs.Hex.{hex_digit}

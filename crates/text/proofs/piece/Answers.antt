@@ -1,5 +1,4 @@
 -- `text::piece` meets its contract: the lent buffer has `text_limit` bytes. Assumes nothing.
-use borrow.Author.Rules.{rules}
 use Rattle.text.proofs.piece.Goals as goal
 
 pub returns : goal.returns

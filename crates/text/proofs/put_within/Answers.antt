@@ -1,10 +1,8 @@
 -- `text::put_within` meets its contract: the loop has pasted the front of the piece. Assumes nothing.
-use Prim.Native.Nat.{◌≤◌, ◌-◌, min}
 use mathlib.Core.Path.{◌≡◌, refl}
 use native.Mathlib.Omega.{arith}
-use lib.ListN.{length, length-set}
-use lib.Seq.{paste, paste-zero}
-use borrow.Author.Rules.{rules}
+use lib.ListN.{length-set}
+use lib.Seq.{paste-zero}
 use Rattle.text.proofs.Writing.{pasted}
 use Rattle.text.proofs.Loops.{pasted_more}
 use Rattle.text.proofs.put_within.Goals as goal

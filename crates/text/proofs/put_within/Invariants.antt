@@ -1,11 +1,7 @@
 use Prim.Native.Nat.{◌≤◌, ◌-◌, min}
-use mathlib.Core.Path.{◌≡◌, refl}
-use native.Mathlib.Omega.{arith}
-use lib.ListN.{length, length-set}
-use lib.Seq.{paste, paste-zero}
-use borrow.Author.Rules.{rules}
-use Rattle.text.proofs.Writing.{pasted}
-use Rattle.text.proofs.Loops.{pasted_more}
+use mathlib.Core.Path.{◌≡◌}
+use lib.ListN.{length}
+use lib.Seq.{paste}
 use Rattle.text.proofs.put_within.Given as goal
 
 abbrev pub invariant-loop-i : goal.invariant-loop-i

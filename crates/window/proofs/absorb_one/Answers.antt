@@ -4,8 +4,8 @@ use mathlib.Core.Path.{◌≡◌}
 use mathlib.Core.Bool.{true}
 use mathlib.Core.List.{List}
 use borrow.Author.Rules.{rules}
-use borrow.Author.Tests.{lt-ltb, le-ltb, le-leb, not-true, not-false}
-use Rattle.logic.specs.Test.{if◌then◌else◌}
+use borrow.Author.Tests.{lt-ltb, le-ltb, le-leb}
+use Rattle.logic.specs.Test.{when◌then◌else◌}
 use Rattle.window.specs.declared.Note.TheVariants.{Contradiction}
 use Rattle.window.specs.declared.Window.{Window}
 use Rattle.window.specs.declared.Taken.{Taken}
@@ -25,8 +25,8 @@ decided : (c : After-same) →
     let a = c.args in
     let s = absorbed (window_of a.ring.now a.ticks.now a.present.now) a.t in
     absorb_one s a.pending a.seat a.tick a.bytes.now
-    ≡ if c.same.result
-    then (if c.holds-held.result then repeats s else stores s a.seat a.tick a.bytes.now)
+    ≡ when c.same.result
+    then (when c.holds-held.result then repeats s else stores s a.seat a.tick a.bytes.now)
     else noted s (Contradiction a.seat a.tick)
 decided c =
     let a = c.args in
@@ -37,24 +37,24 @@ decided c =
     c.same.ensures.0 c.same.ensures.1
 
 pub returns-then-tick-pending : goal.returns-then-tick-pending
-unfolding absorb_one if◌then◌else◌
+unfolding absorb_one when◌then◌else◌
 returns-then-tick-pending c = rw (lt-ltb _ _ c.if-tick-pending.true)
 
 pub returns-then-tick-pending-ge-WINDOW : goal.returns-then-tick-pending-ge-WINDOW
-unfolding absorb_one if◌then◌else◌
+unfolding absorb_one when◌then◌else◌
 returns-then-tick-pending-ge-WINDOW c = rw (le-ltb _ _ c.if-tick-pending.false, le-leb _ _ c.if-tick-pending-ge-WINDOW.true)
 
 pub returns-then-not-same : goal.returns-then-not-same
-unfolding if◌then◌else◌
+unfolding when◌then◌else◌
 returns-then-not-same c = rw (decided (goal.at.returns-then-not-same c).After-same, c.if-not-same.true)
 
 pub returns-then-held : goal.returns-then-held
-unfolding if◌then◌else◌
+unfolding when◌then◌else◌
 returns-then-held c =
     rw (decided (goal.at.returns-then-held c).After-same, c.if-not-same.false, c.if-held.true, c.raise.ensures)
 
 pub returns : goal.returns
-unfolding if◌then◌else◌
+unfolding when◌then◌else◌
 returns c =
     let a = c.args in
     rw (decided (goal.at.returns c).After-same, c.if-not-same.false, c.if-held.false)

@@ -1,5 +1,4 @@
 -- `window::holds` meets its contract. Assumes nothing.
-use borrow.Author.Rules.{rules}
 use Rattle.window.specs.Window.{is_held}
 use Rattle.window.proofs.holds.Goals as goal
 

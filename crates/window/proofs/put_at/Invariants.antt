@@ -1,11 +1,6 @@
-use Prim.Native.Nat.{ℕ, ◌≤◌, ◌<◌, ◌-◌, ◌+◌}
+use Prim.Native.Nat.{◌≤◌, ◌-◌}
 use mathlib.Core.Path.{◌≡◌}
-use mathlib.Core.List.{List}
-use native.Mathlib.Numerals.{add-one}
-use native.Mathlib.Omega.{arith}
-use lib.ListN.{length, set, get_or}
-use lib.Seq.{paste, paste-zero, paste-suc, length-paste}
-use borrow.Author.Rules.{rules}
+use lib.Seq.{paste}
 use Rattle.window.proofs.put_at.Given as goal
 
 abbrev pub invariant-loop-i : goal.invariant-loop-i

@@ -5,9 +5,8 @@ use mathlib.Core.List.{List}
 use native.Mathlib.Omega.{arith}
 use lib.ListN.{length, set}
 use lib.Seq.{paste}
-use borrow.Author.Rules.{rules}
 use borrow.Author.Tests.{lt-ltb, le-ltb, le-leb, lt-leb}
-use Rattle.logic.specs.Test.{if◌then◌else◌}
+use Rattle.logic.specs.Test.{when◌then◌else◌}
 use Rattle.peer.specs.Seats.{seats, adding}
 use Rattle.peer.specs.Cells.{slot_of}
 use Rattle.window.specs.Window.{window_of, write_frame, written, frame_start, held_by}
@@ -22,18 +21,18 @@ unfolding written
 pasted_all ring ticks present seat tick at cell held bytes p q r = rw (p, q, r)
 
 pub returns-then-seat-ge-SEATS : goal.returns-then-seat-ge-SEATS
-unfolding write_frame if◌then◌else◌
+unfolding write_frame when◌then◌else◌
 returns-then-seat-ge-SEATS c = rw (le-ltb _ _ c.if-seat-ge-SEATS.true)
 
 pub returns-then-n-gt-FRAME : goal.returns-then-n-gt-FRAME
-unfolding write_frame if◌then◌else◌
+unfolding write_frame when◌then◌else◌
 returns-then-n-gt-FRAME c = rw (lt-ltb _ _ c.if-seat-ge-SEATS.false, lt-leb _ _ c.if-n-gt-FRAME.true)
 
 pub put_at-requires : goal.put_at-requires
 put_at-requires c = omega (arith, c.put_at-arg-1.given.0.1)
 
 pub returns : goal.returns
-unfolding write_frame if◌then◌else◌
+unfolding write_frame when◌then◌else◌
 returns c =
     let a = c.args in
     rw (lt-ltb _ _ c.if-seat-ge-SEATS.false, le-leb _ _ c.if-n-gt-FRAME.false, c.put_at.ensures)

@@ -1,5 +1,4 @@
 -- `desync::DesyncReport::dissenters` meets its contract. Assumes nothing.
-use borrow.Author.Rules.{rules}
 use Rattle.desync.specs.Report.{dissenters_of}
 use Rattle.desync.proofs.DesyncReport.dissenters.Goals as goal
 

@@ -1,6 +1,5 @@
 -- `desync::DesyncReport::inputs_agree` meets its contract. Assumes nothing.
 use mathlib.Core.Path.{ap, ◌∙◌}
-use borrow.Author.Rules.{rules}
 use Rattle.peer.specs.Seats.{seats, is_empty}
 use Rattle.desync.specs.Report.{inputs_agree}
 use Rattle.desync.proofs.Loops.{empty_set}

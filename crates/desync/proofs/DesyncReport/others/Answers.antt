@@ -1,5 +1,4 @@
 -- `desync::DesyncReport::others` meets its contract. Assumes nothing.
-use borrow.Author.Rules.{rules}
 use Rattle.desync.specs.Report.{others_of}
 use Rattle.desync.proofs.DesyncReport.others.Goals as goal
 

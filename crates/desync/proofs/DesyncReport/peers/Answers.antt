@@ -1,11 +1,9 @@
 -- `desync::DesyncReport::peers` meets its contract: the seats so far are listed. Assumes nothing.
 use mathlib.Core.Path.{◌≡◌}
-use Prim.Native.Nat.{◌≤◌, ◌-◌, min}
+use Prim.Native.Nat.{min}
 use native.Mathlib.Numerals.{add-one}
 use native.Mathlib.Omega.{arith}
-use borrow.Author.Rules.{rules}
 use Rattle.peer.specs.Seats.{seats}
-use Rattle.text.specs.Text.{page, put}
 use Rattle.text.proofs.Writing.{put-join, put_on}
 use Rattle.desync.specs.Json.{peer_list}
 use Rattle.desync.proofs.DesyncReport.peers.Goals as goal

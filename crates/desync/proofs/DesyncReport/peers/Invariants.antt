@@ -1,17 +1,14 @@
 use mathlib.Core.Path.{◌≡◌}
 use Prim.Native.Nat.{◌≤◌, ◌-◌, min}
-use native.Mathlib.Numerals.{add-one}
-use native.Mathlib.Omega.{arith}
-use borrow.Author.Rules.{rules}
 use Rattle.peer.specs.Seats.{seats}
 use Rattle.text.specs.Text.{page, put}
-use Rattle.text.proofs.Writing.{put-join, put_on}
 use Rattle.desync.specs.Json.{peer_list}
 use Rattle.desync.proofs.DesyncReport.peers.Given as goal
 
 abbrev pub invariant-loop-seat : goal.invariant-loop-seat
 invariant-loop-seat l =
-    (seat ≤ min l.self.peer_count seats) × (page l.out l.end ≡ put (page l.initial.out l.initial.end) (peer_list l.self seat))
+    (l.seat ≤ min l.self.peer_count seats)
+    × (page l.out l.end ≡ put (page l.initial.out l.initial.end) (peer_list l.self l.seat))
 
 abbrev pub decreases-loop-seat : goal.decreases-loop-seat
-decreases-loop-seat l = seats - seat
+decreases-loop-seat l = seats - l.seat

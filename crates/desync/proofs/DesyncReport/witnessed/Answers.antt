@@ -1,5 +1,4 @@
 -- `desync::DesyncReport::witnessed` meets its contract. Assumes nothing.
-use borrow.Author.Rules.{rules}
 use Rattle.desync.specs.Report.{is_witnessed}
 use Rattle.desync.proofs.DesyncReport.witnessed.Goals as goal
 

@@ -1,5 +1,4 @@
 -- `fingerprint::Cell::agrees` meets its contract. Assumes nothing.
-use borrow.Author.Rules.{rules}
 use Rattle.fingerprint.specs.Judging.{agrees}
 use Rattle.fingerprint.proofs.Cell.agrees.Goals as goal
 

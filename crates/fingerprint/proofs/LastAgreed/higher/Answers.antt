@@ -1,12 +1,11 @@
 -- `fingerprint::LastAgreed::higher` meets its contract. Assumes nothing.
-use borrow.Author.Rules.{rules}
 use borrow.Author.Tests.{lt-ltb, le-ltb}
-use Rattle.logic.specs.Test.{if◌then◌else◌}
+use Rattle.logic.specs.Test.{when◌then◌else◌}
 use Rattle.fingerprint.specs.LastAgreed.{higher}
 use Rattle.fingerprint.proofs.LastAgreed.higher.Goals as goal
 
 pub returns-then-a-b : goal.returns-then-a-b
-unfolding higher if◌then◌else◌
+unfolding higher when◌then◌else◌
 returns-then-a-b c =
     rw (c.in-At.is, c.in-At-other.is, lt-ltb _ _ c.if-a-b.true)
 
@@ -19,6 +18,6 @@ unfolding higher
 returns-in-Never-other c = rw (c.in-At.is, c.in-Never-other.is)
 
 pub returns-else-a-b : goal.returns-else-a-b
-unfolding higher if◌then◌else◌
+unfolding higher when◌then◌else◌
 returns-else-a-b c =
     rw (c.in-At.is, c.in-At-other.is, le-ltb _ _ c.if-a-b.false)

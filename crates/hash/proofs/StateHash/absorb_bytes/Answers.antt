@@ -1,7 +1,6 @@
 -- `hash::StateHash::absorb_bytes` meets its contract. The invariant: absorbing what is left gives what absorbing all of
 -- it gives at the start. Assumes nothing.
-use Rattle.std.proofs.Common.{◌≡◌, ◌-◌, ◌≤◌, length, drop, sym, ◌∙◌, rules}
-use Rattle.hash.specs.Fnv.{fnv}
+use Rattle.std.proofs.Common.{sym, ◌∙◌, rules}
 use Rattle.hash.proofs.Laws.{fnv_byte, fnv_end}
 use Rattle.hash.proofs.StateHash.absorb_bytes.Goals as goal
 

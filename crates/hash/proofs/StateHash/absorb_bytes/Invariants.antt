@@ -1,6 +1,5 @@
-use Rattle.std.proofs.Common.{◌≡◌, ◌-◌, ◌≤◌, length, drop, sym, ◌∙◌, rules}
+use Rattle.std.proofs.Common.{◌≡◌, ◌-◌, ◌≤◌, length, drop}
 use Rattle.hash.specs.Fnv.{fnv}
-use Rattle.hash.proofs.Laws.{fnv_byte, fnv_end}
 use Rattle.hash.proofs.StateHash.absorb_bytes.Given as goal
 
 abbrev pub invariant-loop-i : goal.invariant-loop-i

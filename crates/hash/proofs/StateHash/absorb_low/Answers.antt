@@ -1,7 +1,6 @@
 -- `hash::StateHash::absorb_low` meets its contract. The invariant: absorbing what is left gives what absorbing all of
 -- it gives at the start. Assumes nothing.
-use Rattle.std.proofs.Common.{◌≡◌, sym, ◌∙◌, rules}
-use Rattle.hash.specs.Fnv.{fnv, le_bytes}
+use Rattle.std.proofs.Common.{sym, ◌∙◌, rules}
 use Rattle.hash.proofs.Laws.{fnv_low, fnv_none}
 use Rattle.hash.proofs.StateHash.absorb_low.Goals as goal
 

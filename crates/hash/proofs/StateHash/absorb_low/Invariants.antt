@@ -1,6 +1,5 @@
-use Rattle.std.proofs.Common.{◌≡◌, sym, ◌∙◌, rules}
+use Rattle.std.proofs.Common.{◌≡◌}
 use Rattle.hash.specs.Fnv.{fnv, le_bytes}
-use Rattle.hash.proofs.Laws.{fnv_low, fnv_none}
 use Rattle.hash.proofs.StateHash.absorb_low.Given as goal
 
 abbrev pub invariant-loop-n : goal.invariant-loop-n

@@ -1,6 +1,5 @@
 -- `params::SessionParams::agreement` meets its contract: absorbed one after the other, the numbers are their bytes
 -- joined. Assumes nothing.
-use borrow.Author.Rules.{rules}
 use Rattle.hash.proofs.Laws.{fnv-append}
 use Rattle.params.specs.Params.{agreement_of, agreement_bytes}
 use Rattle.params.proofs.SessionParams.agreement.Goals as goal

@@ -1,5 +1,4 @@
 -- `params::SessionParams::bad_state` meets its contract. Assumes nothing.
-use borrow.Author.Rules.{rules}
 use Rattle.params.specs.Params.{bad_state}
 use Rattle.params.proofs.SessionParams.bad_state.Goals as goal
 

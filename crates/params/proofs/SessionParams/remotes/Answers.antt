@@ -1,5 +1,4 @@
 -- `params::SessionParams::remotes` meets its contract. Assumes nothing.
-use borrow.Author.Rules.{rules}
 use Rattle.params.specs.Params.{remotes_of}
 use Rattle.params.proofs.SessionParams.remotes.Goals as goal
 

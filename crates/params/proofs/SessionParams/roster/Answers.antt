@@ -1,5 +1,4 @@
 -- `params::SessionParams::roster` meets its contract. Assumes nothing.
-use borrow.Author.Rules.{rules}
 use Rattle.params.specs.Params.{roster_of}
 use Rattle.params.proofs.SessionParams.roster.Goals as goal
 

@@ -4,9 +4,8 @@ use mathlib.Core.Bool.{Bool, false, not}
 use mathlib.Core.Logic.{◌≢◌}
 use Prim.Native.Nat.{◌<◌, ◌≤◌}
 use lib.Dec.{eqb, ltb}
-use borrow.Author.Rules.{rules}
 use borrow.Author.Tests.{lt-ltb, le-ltb, eq-eqb, ne_eqb}
-use Rattle.logic.specs.Test.{if◌then◌else◌}
+use Rattle.logic.specs.Test.{when◌then◌else◌}
 use Rattle.logic.specs.Range.{outside}
 use Rattle.peer.specs.Seats.{seats}
 use Rattle.params.specs.declared.SessionParams.{SessionParams}
@@ -29,15 +28,15 @@ passed p is_count count_in within is_width width_in = record {
 }
 
 pub returns-then-is_outside : goal.returns-then-is_outside
-unfolding validity if◌then◌else◌
+unfolding validity when◌then◌else◌
 returns-then-is_outside c = rw (sym c.is_outside.ensures ∙ c.if-is_outside.true)
 
 pub returns-then-self : goal.returns-then-self
-unfolding validity if◌then◌else◌
+unfolding validity when◌then◌else◌
 returns-then-self c = rw (sym c.is_outside.ensures ∙ c.if-is_outside.false, le-ltb _ _ c.if-self.true)
 
 pub returns-then-is_outside-2 : goal.returns-then-is_outside-2
-unfolding validity if◌then◌else◌
+unfolding validity when◌then◌else◌
 returns-then-is_outside-2 c =
     rw (
       sym c.is_outside.ensures ∙ c.if-is_outside.false,
@@ -46,14 +45,14 @@ returns-then-is_outside-2 c =
     )
 
 pub returns-then-self-gt-MAX_DELAY : goal.returns-then-self-gt-MAX_DELAY
-unfolding validity if◌then◌else◌
+unfolding validity when◌then◌else◌
 returns-then-self-gt-MAX_DELAY c =
     let h = passed c.args.self c.is_outside.ensures c.if-is_outside.false c.if-self.false c.is_outside-2.ensures
     c.if-is_outside-2.false in
     rw (h.count, h.local, h.width, lt-ltb _ _ c.if-self-gt-MAX_DELAY.true)
 
 pub returns-then-self-eq0 : goal.returns-then-self-eq0
-unfolding validity if◌then◌else◌
+unfolding validity when◌then◌else◌
 returns-then-self-eq0 c =
     let h = passed c.args.self c.is_outside.ensures c.if-is_outside.false c.if-self.false c.is_outside-2.ensures
     c.if-is_outside-2.false in
@@ -61,19 +60,19 @@ returns-then-self-eq0 c =
 
 -- past five checks the session number decides
 sixth : (p : SessionParams) → Passed p → p.delay ≤ max_delay → p.period ≢ 0
-    → validity p ≡ if eqb p.session 0 then SessionZero else Valid
-unfolding validity if◌then◌else◌
+    → validity p ≡ when eqb p.session 0 then SessionZero else Valid
+unfolding validity when◌then◌else◌
 sixth p h early due = rw (h.count, h.local, h.width, le-ltb _ _ early, ne_eqb _ _ due)
 
 pub returns-then-self-eq0-2 : goal.returns-then-self-eq0-2
-unfolding if◌then◌else◌
+unfolding when◌then◌else◌
 returns-then-self-eq0-2 c =
     let h = passed c.args.self c.is_outside.ensures c.if-is_outside.false c.if-self.false c.is_outside-2.ensures
     c.if-is_outside-2.false in
     rw (sixth c.args.self h c.if-self-gt-MAX_DELAY.false c.if-self-eq0.false, eq-eqb _ _ c.if-self-eq0-2.true)
 
 pub returns : goal.returns
-unfolding if◌then◌else◌
+unfolding when◌then◌else◌
 returns c =
     let h = passed c.args.self c.is_outside.ensures c.if-is_outside.false c.if-self.false c.is_outside-2.ensures
     c.if-is_outside-2.false in

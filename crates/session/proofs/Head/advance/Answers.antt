@@ -4,8 +4,7 @@ use Prim.Native.Nat.{ℕ}
 use mathlib.Core.Path.{◌≡◌, sym, ap, ◌∙◌}
 use mathlib.Core.Bool.{false}
 use mathlib.Core.List.{List}
-use borrow.Author.Rules.{rules}
-use Rattle.logic.specs.Test.{if◌then◌else◌}
+use Rattle.logic.specs.Test.{when◌then◌else◌}
 use Rattle.logic.proofs.Cases.{if_false}
 use Rattle.params.specs.Params.{bad_state}
 use Rattle.window.specs.Window.{window_of, held_by}
@@ -88,7 +87,7 @@ pub drain-requires-in-LeftLocally : goal.drain-requires-in-LeftLocally
 drain-requires-in-LeftLocally c = good (goal.at.drain-requires-in-LeftLocally c).Else-bad_state
 
 pub returns-then-bad_state : goal.returns-then-bad_state
-unfolding advance_head if◌then◌else◌
+unfolding advance_head when◌then◌else◌
 returns-then-bad_state c =
     whole (goal.at.returns-then-bad_state c).Start _ (rw (← c.bad_state.ensures, c.if-bad_state.true) c.idle.ensures)
 

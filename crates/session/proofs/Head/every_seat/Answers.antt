@@ -1,5 +1,4 @@
 -- `session::Head::every_seat` meets its contract. Assumes nothing.
-use borrow.Author.Rules.{rules}
 use Rattle.session.specs.Session.{every_seat}
 use Rattle.session.proofs.Head.every_seat.Goals as goal
 

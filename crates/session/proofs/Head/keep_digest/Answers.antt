@@ -1,6 +1,5 @@
 -- `session::Head::keep_digest` meets its contract. Assumes nothing.
-use borrow.Author.Rules.{rules}
-use Rattle.logic.specs.Test.{if◌then◌else◌}
+use Rattle.logic.specs.Test.{when◌then◌else◌}
 use Rattle.session.specs.Step.{judge, keep_digest}
 use Rattle.session.proofs.Head.keep_digest.Goals as goal
 
@@ -9,7 +8,7 @@ unfolding keep_digest
 returns-in_default c = λ w. rw c.in_default.is
 
 pub returns-then-parted : goal.returns-then-parted
-unfolding keep_digest judge if◌then◌else◌
+unfolding keep_digest judge when◌then◌else◌
 returns-then-parted c = λ w.
     rw (
       c.in-Present.is,
@@ -21,7 +20,7 @@ returns-then-parted c = λ w.
     )
 
 pub returns : goal.returns
-unfolding keep_digest judge if◌then◌else◌
+unfolding keep_digest judge when◌then◌else◌
 returns c = λ w.
     rw (
       c.in-Present.is,

@@ -1,5 +1,4 @@
 -- `session::Head::new` meets its contract. Assumes nothing.
-use borrow.Author.Rules.{rules}
 use Rattle.session.specs.Session.{fresh_head}
 use Rattle.session.proofs.Head.new.Goals as goal
 

@@ -1,5 +1,4 @@
 -- `session::Head::open` meets its contract: the arrays are as they start. Assumes nothing.
-use borrow.Author.Rules.{rules}
 use Rattle.window.specs.Window.{fresh_window}
 use Rattle.fingerprint.specs.Cells.{no_prints}
 use Rattle.session.specs.Host.{opened}

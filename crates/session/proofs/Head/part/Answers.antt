@@ -1,5 +1,4 @@
 -- `session::Head::part` meets its contract. Assumes nothing.
-use borrow.Author.Rules.{rules}
 use Rattle.session.specs.Session.{ended}
 use Rattle.session.proofs.Head.part.Goals as goal
 

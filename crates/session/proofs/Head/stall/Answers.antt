@@ -1,5 +1,4 @@
 -- `session::Head::stall` meets its contract. Assumes nothing.
-use borrow.Author.Rules.{rules}
 use Rattle.session.specs.Step.{stall}
 use Rattle.session.proofs.Head.stall.Goals as goal
 

@@ -1,6 +1,5 @@
 -- `session::Head::take_step` meets its contract. Assumes nothing.
 use native.Mathlib.Omega.{arith}
-use borrow.Author.Rules.{rules}
 use Rattle.params.proofs.Laws.{sound}
 use Rattle.session.specs.Step.{stepped, take_step}
 use Rattle.session.proofs.Head.take_step.Goals as goal

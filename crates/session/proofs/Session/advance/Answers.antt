@@ -1,5 +1,4 @@
 -- `session::Session::advance` meets its contract: it is the call in place on its parts. Assumes nothing.
-use borrow.Author.Rules.{rules}
 use Rattle.session.proofs.Session.advance.Goals as goal
 
 pub returns : goal.returns

@@ -1,5 +1,4 @@
 -- `session::Session::commit` meets its contract: it is the call in place on its parts. Assumes nothing.
-use borrow.Author.Rules.{rules}
 use Rattle.session.proofs.Session.commit.Goals as goal
 
 pub returns : goal.returns

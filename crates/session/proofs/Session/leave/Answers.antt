@@ -1,5 +1,4 @@
 -- `session::Session::leave` meets its contract: it is the call in place on its head. Assumes nothing.
-use borrow.Author.Rules.{rules}
 use Rattle.session.specs.Host.{leave}
 use Rattle.session.proofs.Session.leave.Goals as goal
 

@@ -1,5 +1,4 @@
 -- `session::Session::open` meets its contract. Assumes nothing.
-use borrow.Author.Rules.{rules}
 use Rattle.session.specs.Host.{opened}
 use Rattle.session.proofs.Session.open.Goals as goal
 

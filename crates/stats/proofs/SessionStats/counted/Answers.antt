@@ -1,5 +1,4 @@
 -- `stats::SessionStats::counted` meets its contract: each counter by what `raise_if` ensures. Assumes nothing.
-use borrow.Author.Rules.{rules}
 use Rattle.stats.specs.Stats.{counted_of}
 use Rattle.stats.proofs.SessionStats.counted.Goals as goal
 

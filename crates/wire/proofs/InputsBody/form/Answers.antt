@@ -4,9 +4,8 @@ use mathlib.Core.Bool.{false, not}
 use Prim.Native.Nat.{ℕ, ◌+◌, ◌*◌}
 use native.Mathlib.Omega.{arith}
 use lib.Dec.{eqb, ltb}
-use borrow.Author.Rules.{rules}
 use borrow.Author.Tests.{lt-ltb, le-ltb, eq-eqb, ne_eqb}
-use Rattle.logic.specs.Test.{if◌then◌else◌}
+use Rattle.logic.specs.Test.{when◌then◌else◌}
 use Rattle.logic.specs.Range.{outside}
 use Rattle.logic.specs.Saturating.{most}
 use Rattle.logic.proofs.Cases.{if_true, if_false}
@@ -19,18 +18,18 @@ use Rattle.wire.specs.Wire.{inputs_form, redundancy}
 use Rattle.wire.proofs.InputsBody.form.Goals as goal
 
 pub returns-then-is_outside : goal.returns-then-is_outside
-unfolding inputs_form if◌then◌else◌
+unfolding inputs_form when◌then◌else◌
 returns-then-is_outside c = rw (sym c.is_outside.ensures ∙ c.if-is_outside.true)
 
 pub returns-then-is_outside-2 : goal.returns-then-is_outside-2
-unfolding inputs_form if◌then◌else◌
+unfolding inputs_form when◌then◌else◌
 returns-then-is_outside-2 c = rw ((sym c.is_outside.ensures ∙ c.if-is_outside.false), sym c.is_outside-2.ensures ∙ c.if-is_outside-2.true)
 
 pub overflow_mul-declared : goal.overflow_mul-declared
 overflow_mul-declared c = record { fits = mul_lt_pow 32 (omega arith) (omega arith) }
 
 pub returns-then-length-declared : goal.returns-then-length-declared
-unfolding inputs_form if◌then◌else◌
+unfolding inputs_form when◌then◌else◌
 returns-then-length-declared c =
     let two = c.before.before.before in
     rw (
@@ -45,8 +44,8 @@ returns-then-length-declared c =
 last : (b : InputsBody) (length : ℕ) → outside 1 max_width b.width ≡ false → outside 1 redundancy b.count ≡ false
     → length ≡ b.count * b.width
     → inputs_form b length
-    ≡ if ltb most (b.first + b.count) then Malformed (TickOverflow b.first b.count) else Good
-unfolding inputs_form if◌then◌else◌
+    ≡ when ltb most (b.first + b.count) then Malformed (TickOverflow b.first b.count) else Good
+unfolding inputs_form when◌then◌else◌
 last b length wide counted long =
     let as_long : not (eqb length (b.count * b.width)) ≡ false = rw (eq-eqb _ _ long) in rw (wide, counted, as_long)
 

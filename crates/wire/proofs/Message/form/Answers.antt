@@ -6,22 +6,21 @@ use Prim.Native.Nat.{ℕ, ◌<◌}
 use lib.ListN.{length}
 use Rattle.peer.specs.Seats.{seats}
 use Rattle.wire.specs.declared.Message.{Message}
-use borrow.Author.Rules.{rules}
 use borrow.Author.Tests.{lt-ltb, le-ltb, eq-eqb, ne_eqb}
-use Rattle.logic.specs.Test.{if◌then◌else◌}
+use Rattle.logic.specs.Test.{when◌then◌else◌}
 use Rattle.wire.specs.Wire.{form_of, body_form}
 use Rattle.wire.proofs.Message.form.Goals as goal
 
 past : (m : Message) (run : List ℕ) → m.sender < seats → m.session ≢ 0 → form_of m run ≡ body_form m.body (length run)
-unfolding form_of if◌then◌else◌
+unfolding form_of when◌then◌else◌
 past m run low some = rw (lt-ltb _ _ low, ne_eqb _ _ some)
 
 pub returns-then-self-ge-SEATS : goal.returns-then-self-ge-SEATS
-unfolding form_of if◌then◌else◌
+unfolding form_of when◌then◌else◌
 returns-then-self-ge-SEATS c = rw (le-ltb _ _ c.if-self-ge-SEATS.true)
 
 pub returns-then-self-eq0 : goal.returns-then-self-eq0
-unfolding form_of if◌then◌else◌
+unfolding form_of when◌then◌else◌
 returns-then-self-eq0 c = rw (lt-ltb _ _ c.if-self-ge-SEATS.false, eq-eqb _ _ c.if-self-eq0.true)
 
 pub returns-in-Hello : goal.returns-in-Hello
