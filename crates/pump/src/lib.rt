@@ -154,7 +154,7 @@ fn carried(h: Head, ticks: &[u64; window::SLOTS], present: &[peer::Bits; window:
 // Byte j of the run of `count` frames of a seat from the tick `first` on: byte j mod width of frame j div width.
 fn run_byte(ring: &[u8; window::RING], seat: u8, first: u64, count: u8, width: u8, j: usize) -> u8
     requires { (seat < seats) × (1 ≤ width) × (width ≤ max_width) × (first + count ≤ most) }
-    ensures { result ≡ if ltb j (count * width)
+    ensures { result ≡ when ltb j (count * width)
         then get_or (take width (drop (frame_start seat (first + j / width)) ring.now)) (j % width) 0
         else 0 }
 {
