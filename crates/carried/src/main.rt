@@ -3,16 +3,18 @@
 // time in a buffer that is a byte too short (report.rt). The file stdout beside src/ is what the Rust says. Here is
 // what drives: a record is read, its call is made, its line is written. The calls are those by value, so that they are
 // held against the Rust as well as those in place, which `circle` makes.
+#![tactic(auto)]
+
 mod answers;
 mod report;
 
 ghost use Rattle.std.specs.Prelude.{◌≤◌, ◌<◌, ◌≡◌, length};
 ghost use Rattle.script.specs.Records.{longest};
 
-use libc::{STDIN_FILENO, STDOUT_FILENO};
 use params::SessionParams;
 use script::{Asked, Call};
 use session::{Session, WorldDigest};
+use std::io::{Read as _, Stdin, Stdout};
 use wire::Message;
 
 // What a record came to: the session that stands, and how many bytes the line in the lent buffer has.
@@ -197,50 +199,57 @@ fn place(buf: &mut [u8], head: [u8; script::HEADER])
 }
 
 // The header first, which says how many bytes follow.
-fn read_record(buf: &mut [u8]) -> Read
+fn read_record(mut from: Stdin, buf: &mut [u8]) -> Read
     requires { length buf.old ≡ longest }
     ensures { result.size ≤ longest }
 {
     let mut head = [0u8; script::HEADER];
-    let got = io::read_full(STDIN_FILENO, &mut head);
-    if got < script::HEADER {
-        return Read {
-            size: got,
-            whole: false,
-        };
+    let got = match from.read(&mut head) {
+        Ok(n) => n,
+        Err(_) => 0,
+    };
+    let some = Read {
+        size: got,
+        whole: false,
+    };
+    if got == 0 {
+        return some;
+    }
+    if from.read_exact(&mut head[got..]).is_err() {
+        return some;
     }
     let size = payload(head[0], head[1]);
     let end = script::HEADER + size;
     place(buf, head);
-    let more = io::read_full(STDIN_FILENO, &mut buf[script::HEADER..end]);
+    let rest = from.read_exact(&mut buf[script::HEADER..end]);
     Read {
         size: end,
-        whole: more == size,
+        whole: rest.is_ok(),
     }
 }
 
 // Writes the first bytes of a buffer. It says whether that could be done.
-fn put_out(bytes: &[u8], size: usize) -> bool {
+fn put_out(to: Stdout, bytes: &[u8], size: usize) -> bool {
     let n = logic::least(size, bytes.len());
-    io::write_all(STDOUT_FILENO, &bytes[..n])
+    to.write_all(&bytes[..n]).is_ok()
 }
 
 // Ends the line in the buffer and writes it.
-fn say(out: &mut [u8; text::LIMIT], size: usize) -> bool {
+fn say(to: Stdout, out: &mut [u8; text::LIMIT], size: usize) -> bool {
     let n = text::byte(out, size, b'\n');
-    put_out(out, n)
+    put_out(to, out, n)
 }
 
 // The next record, if the input holds one.
-fn take_turn(t: Turn, buf: &mut [u8], out: &mut [u8; text::LIMIT]) -> Turn
+fn take_turn(from: Stdin, to: Stdout, t: Turn, buf: &mut [u8], out: &mut [u8; text::LIMIT]) -> Turn
     requires { length buf.old ≡ longest }
 {
     let session = t.session;
-    let read = read_record(buf);
+    let read = read_record(from, buf);
     if !read.whole {
         if read.size > 0 {
             let cut = text::piece(out, 0, b"cut");
-            say(out, cut);
+            say(to, out, cut);
         }
         return Turn {
             session: session,
@@ -251,13 +260,13 @@ fn take_turn(t: Turn, buf: &mut [u8], out: &mut [u8; text::LIMIT]) -> Turn
     let next = answered.session;
     Turn {
         session: next,
-        going: say(out, answered.size),
+        going: say(to, out, answered.size),
     }
 }
 
 // A proved loop has to end, and nothing says that the input does: the turns are counted down from a number that no run
 // uses up.
-fn main() {
+fn main(rt: HostRuntime) {
     let mut buf = [0u8; script::LONGEST];
     let mut out = [0u8; text::LIMIT];
     let mut t = Turn {
@@ -266,7 +275,7 @@ fn main() {
     };
     let mut turns = u64::MAX;
     while turns > 0 && t.going {
-        t = take_turn(t, &mut buf, &mut out);
+        t = take_turn(rt.stdin(), rt.stdout(), t, &mut buf, &mut out);
         turns -= 1;
     }
 }

@@ -1,10 +1,13 @@
 // Document 01's cases P1 to P10 through the code: a line for each row of the table in the crate table, with the case
 // and the row's numbers. The file stdout beside src/ is written from document 01, not from what this program once
 // printed.
+#![tactic(auto)]
+
 use deliver::Delivered;
 use hash::StateHash;
 use params::SessionParams;
 use session::{Leave, Outcome, Session, WorldDigest};
+use std::io;
 use wire::{Body, HelloBody, InputsBody, Message};
 
 // ---- sessions grown by calls, as in specs/Cases.antt
@@ -85,106 +88,109 @@ fn plays(s: Session, tick: u64) -> Session {
 
 // ---- a row's numbers
 
-fn show(number: u64) {
-    io::write_all(1, b" ");
-    io::print_decimal(1, number);
+fn show(rt: &impl Print, number: u64) -> io::Result<()> {
+    print!(rt; " {number}")
 }
 
-fn case(number: u64) {
-    io::write_all(1, b"P");
-    io::print_decimal(1, number);
+fn case(rt: &impl Print, number: u64) -> io::Result<()> {
+    print!(rt; "P{number}")
 }
 
-fn end_line() {
-    io::write_all(1, b"\n");
+fn end_line(rt: &impl Print) -> io::Result<()> {
+    println!(rt; "")
 }
 
-fn opens(number: u64, params: SessionParams) {
+fn opens(rt: &impl Print, number: u64, params: SessionParams) -> io::Result<()> {
     let answer = Session::open(params).answer;
-    case(number);
-    show(answer.number() as u64);
-    end_line();
+    case(rt, number)?;
+    show(rt, answer.number() as u64)?;
+    end_line(rt)
 }
 
-fn counts(number: u64, d: Delivered, tick: u64) {
+fn counts(rt: &impl Print, number: u64, d: Delivered, tick: u64) -> io::Result<()> {
     let answer = d.answer;
     let session = d.session;
     let stats = session.head.stats;
     let window = session.window;
-    case(number);
-    show(session.head.play.pending);
-    show(answer.number() as u64);
-    show(stats.datagrams_refused);
-    show(stats.frames_repeated);
-    show(stats.frames_contradicted);
-    show(stats.frames_out_of_window);
-    show(stats.digests_contradicted);
-    show(stats.stall_pumps);
+    case(rt, number)?;
+    show(rt, session.head.play.pending)?;
+    show(rt, answer.number() as u64)?;
+    show(rt, stats.datagrams_refused)?;
+    show(rt, stats.frames_repeated)?;
+    show(rt, stats.frames_contradicted)?;
+    show(rt, stats.frames_out_of_window)?;
+    show(rt, stats.digests_contradicted)?;
+    show(rt, stats.stall_pumps)?;
     let ticks = window.ticks;
     let present = window.present;
-    show(window::holds(&ticks, &present, 1, tick) as u64);
-    end_line();
+    show(rt, window::holds(&ticks, &present, 1, tick) as u64)?;
+    end_line(rt)
 }
 
-fn show_outcome(outcome: Outcome) {
+fn show_outcome(rt: &impl Print, outcome: Outcome) -> io::Result<()> {
     match outcome {
         Outcome::Desynced { tick } => {
-            show(1);
-            show(tick);
+            show(rt, 1)?;
+            show(rt, tick)
         }
         Outcome::PeerLeft { peer: _, tick } => {
-            show(2);
-            show(tick);
+            show(rt, 2)?;
+            show(rt, tick)
         }
         Outcome::LeftLocally { tick } => {
-            show(3);
-            show(tick);
+            show(rt, 3)?;
+            show(rt, tick)
         }
     }
 }
 
-fn leaves(number: u64, s: Session) {
+fn leaves(rt: &impl Print, number: u64, s: Session) -> io::Result<()> {
+    case(rt, number)?;
+    show(rt, s.head.play.pending)?;
     let answer = s.leave().answer;
-    case(number);
-    show(s.head.play.pending);
-    show(answer.number() as u64);
+    show(rt, answer.number() as u64)?;
     if let Leave::Ended(outcome) = answer {
-        show_outcome(outcome);
+        show_outcome(rt, outcome)?;
     }
-    end_line();
+    end_line(rt)
 }
 
-fn hashes(number: u64, bytes: &[u8]) {
-    case(number);
-    show(StateHash::new().absorb_bytes(bytes).finish());
-    end_line();
+fn hashes(rt: &impl Print, number: u64, bytes: &[u8]) -> io::Result<()> {
+    case(rt, number)?;
+    show(rt, StateHash::new().absorb_bytes(bytes).finish())?;
+    end_line(rt)
 }
 
 // ---- the rows
 
-fn main() {
-    opens(1, circle(1, 0, 1));
-    opens(1, circle(2, 0, 1));
-    opens(1, circle(8, 0, 1));
-    opens(1, circle(9, 0, 1));
-    counts(2, sends(new(), 63, 1, b"B"), 63);
-    counts(3, sends(new(), 64, 1, b"B"), 64);
-    counts(4, sends(new(), 0, 1, b"B"), 0);
-    counts(4, sends(once(), 0, 1, b"B"), 0);
-    counts(5, sends(once(), 0, 2, b"CD"), 1);
-    counts(5, sends(once(), 0, 1, b"C"), 1);
-    counts(5, sends(twice(), 0, 2, b"CE"), 1);
-    counts(5, sends(sends(once(), 0, 2, b"CD").session, 0, 2, b"BD"), 1);
+fn main(rt: HostRuntime) -> io::Result<()> {
+    opens(&rt, 1, circle(1, 0, 1))?;
+    opens(&rt, 1, circle(2, 0, 1))?;
+    opens(&rt, 1, circle(8, 0, 1))?;
+    opens(&rt, 1, circle(9, 0, 1))?;
+    counts(&rt, 2, sends(new(), 63, 1, b"B"), 63)?;
+    counts(&rt, 3, sends(new(), 64, 1, b"B"), 64)?;
+    counts(&rt, 4, sends(new(), 0, 1, b"B"), 0)?;
+    counts(&rt, 4, sends(once(), 0, 1, b"B"), 0)?;
+    counts(&rt, 5, sends(once(), 0, 2, b"CD"), 1)?;
+    counts(&rt, 5, sends(once(), 0, 1, b"C"), 1)?;
+    counts(&rt, 5, sends(twice(), 0, 2, b"CE"), 1)?;
+    counts(
+        &rt,
+        5,
+        sends(sends(once(), 0, 2, b"CD").session, 0, 2, b"BD"),
+        1,
+    )?;
     let one = plays(greeted(new()), 0);
     let two = plays(one, 1);
-    counts(6, sends(plays(two, 2), 2, 1, b"C"), 2);
-    counts(6, sends(pressed(two, 2), 2, 1, b"C"), 2);
-    opens(7, circle(2, 63, 1));
-    opens(7, circle(2, 64, 1));
-    opens(8, circle(9, 0, 0));
-    opens(8, circle(8, 0, 0));
-    leaves(9, new());
-    leaves(9, one);
-    leaves(9, two);
-    hashes(10, b"");
+    counts(&rt, 6, sends(plays(two, 2), 2, 1, b"C"), 2)?;
+    counts(&rt, 6, sends(pressed(two, 2), 2, 1, b"C"), 2)?;
+    opens(&rt, 7, circle(2, 63, 1))?;
+    opens(&rt, 7, circle(2, 64, 1))?;
+    opens(&rt, 8, circle(9, 0, 0))?;
+    opens(&rt, 8, circle(8, 0, 0))?;
+    leaves(&rt, 9, new())?;
+    leaves(&rt, 9, one)?;
+    leaves(&rt, 9, two)?;
+    hashes(&rt, 10, b"")
 }

@@ -1,5 +1,7 @@
+#![tactic(auto)]
+
 use runner::Form;
 
-fn main() {
-    stream::run(Form::Plain);
+fn main(rt: HostRuntime) {
+    stream::run(rt.stdin(), rt.stdout(), Form::Plain);
 }

@@ -43,7 +43,7 @@ pub enum Delivery {
     Refused(Refusal),
 }
 
-#[derive(Drop)]
+#[derive(Clone, Copy)]
 pub struct Delivered {
     pub session: Session,
     pub answer: Delivery,

@@ -44,7 +44,7 @@ const KEPT: usize = peer::HISTORY as usize;
 pub const CELLS: usize = (peer::SEATS as usize + 1) * KEPT;
 
 // A cell is the numbers at one place of each list, with a mark whether they are a print.
-#[derive(Drop)]
+#[derive(Clone, Copy)]
 pub struct Fingerprints {
     pub held: [bool; CELLS],
     pub ticks: [u64; CELLS],

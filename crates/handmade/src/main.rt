@@ -3,6 +3,10 @@
 // each session as it was built. At the end stands how many ticks are ready: of each session as it was built, of such
 // with full windows too, and after each record of the script. The file stdout beside src/ is what tests/handmade.py,
 // over the rules' second writing, says of the same.
+#![tactic(auto)]
+
+ghost use Rattle.std.specs.Prelude.{◌≤◌, IfOk, length};
+
 use fingerprint::{Cell, Fingerprint};
 use params::SessionParams;
 use runner::Form;
@@ -11,10 +15,15 @@ use session::{
 };
 use shown::Ready;
 use stats::SessionStats;
+use std::io;
+use std::io::{Read, Stdin, Stdout};
 use window::Window;
 use wire::{Body, ByeBody, Message};
 
 const MOST: u64 = 18446744073709551615;
+
+// How many bytes of a script are read, at most.
+const READ: usize = 65536;
 
 // Three seats, of which this is seat 1; two bytes a tick, delay 1, a digest every other tick.
 fn trio(count: u8) -> SessionParams {
@@ -372,7 +381,7 @@ fn ready_for_none() -> Session {
 }
 
 // The script on a session of its own.
-fn run_on(s: Session, script: &[u8], form: Form) {
+fn run_on(to: Stdout, s: Session, script: &[u8], form: Form) {
     let head = s.head;
     let window = s.window;
     let mut ring = window.ring;
@@ -384,6 +393,7 @@ fn run_on(s: Session, script: &[u8], form: Form) {
     let mut states = prints.states;
     let mut inputs = prints.inputs;
     stream::run_bytes(
+        to,
         head,
         &mut ring,
         &mut ticks,
@@ -398,97 +408,107 @@ fn run_on(s: Session, script: &[u8], form: Form) {
 }
 
 // From each of its records on.
-fn from_each(s: Session, script: &[u8]) {
+fn from_each(to: Stdout, s: Session, script: &[u8]) {
     let mut at: usize = 0;
     let mut size = script::record_size(script);
     while size > 0 {
-        run_on(s, &script[at..], Form::Trace);
+        run_on(to, s, &script[at..], Form::Trace);
         at += size;
         size = script::record_size(&script[at..]);
     }
 }
 
-fn number(n: u8) {
-    io::print_decimal(libc::STDOUT_FILENO, n as u64);
-    io::write_all(libc::STDOUT_FILENO, b"\n");
+fn number(to: Stdout, n: u8) -> io::Result<()> {
+    println!(to; "{n}")
 }
 
 // The number that each call answers with, for a session that the runner takes for none.
-fn numbers(s: Session) {
+fn numbers(to: Stdout, s: Session) -> io::Result<()> {
     let submitted = s.submit(b"ab").answer;
-    number(submitted.number());
+    number(to, submitted.number())?;
     let message = Message {
         sender: 0,
         session: 5,
         body: Body::Bye(ByeBody { tick: 0 }),
     };
     let delivered = deliver::deliver(s, 0, message, b"").answer;
-    number(delivered.number());
+    number(to, delivered.number())?;
     let advanced = s.advance().answer;
-    number(advanced.number());
+    number(to, advanced.number())?;
     let committed = s.commit(0, WorldDigest::Absent).answer;
-    number(committed.number());
+    number(to, committed.number())?;
     let left = s.leave().answer;
-    number(left.number());
+    number(to, left.number())?;
     let pumped = pump::next_outbound(s).answer;
-    number(pumped.number());
+    number(to, pumped.number())?;
     let sought = desync::desync_report(s).answer;
-    number(sought.number());
+    number(to, sought.number())?;
     let ready = shown::ready_ticks(s);
-    number(ready.number());
+    number(to, ready.number())
 }
 
 // How many ticks are ready, of the session as it is and after each record of the script.
-fn ready_on(s: Session, script: &[u8]) {
+fn ready_on(to: Stdout, s: Session, script: &[u8]) -> io::Result<()> {
     let ready = shown::ready_ticks(s);
     match ready {
-        Ready::Ticks(n) => {
-            io::write_all(libc::STDOUT_FILENO, b"ready ");
-            io::print_decimal(libc::STDOUT_FILENO, n);
-            io::write_all(libc::STDOUT_FILENO, b"\n");
-        }
-        Ready::BadState => {
-            io::write_all(libc::STDOUT_FILENO, b"ready none\n");
-        }
+        Ready::Ticks(n) => println!(to; "ready {n}")?,
+        Ready::BadState => println!(to; "ready none")?,
     }
-    run_on(s, script, Form::Ready);
+    run_on(to, s, script, Form::Ready);
+    Ok(())
 }
 
-fn main() {
-    let mut buffer = io::large_buffer();
-    let n = io::read_full(libc::STDIN_FILENO, &mut buffer);
+// Standard input, as far as the buffer has room for it: how many bytes there are.
+fn read_script(mut from: Stdin, buffer: &mut [u8]) -> io::Result<usize>
+    ensures { IfOk result (λ n. n ≤ length buffer.new) }
+{
+    let mut at: usize = 0;
+    while at < buffer.len() {
+        let n = from.read(&mut buffer[at..])?;
+        if n == 0 {
+            break;
+        }
+        at += n;
+    }
+    Ok(at)
+}
+
+fn main(rt: HostRuntime) -> io::Result<()> {
+    let to = rt.stdout();
+    let mut buffer = [0u8; READ];
+    let n = read_script(rt.stdin(), &mut buffer)?;
     let script = &buffer[..n];
-    from_each(at_the_last_tick(), script);
-    from_each(strangers_in_the_sets(), script);
-    from_each(plays_though_over(), script);
-    from_each(steps_elsewhere(), script);
-    from_each(prints_astray(), script);
-    from_each(parted_astray(), script);
-    from_each(pump_past_the_seats(), script);
-    from_each(pump_says_bye(), script);
-    from_each(ring_of_strangers(), script);
-    from_each(counters_full(), script);
-    from_each(too_many_seats(), script);
-    numbers(too_many_seats());
-    ready_on(at_the_last_tick(), script);
-    ready_on(strangers_in_the_sets(), script);
-    ready_on(plays_though_over(), script);
-    ready_on(steps_elsewhere(), script);
-    ready_on(prints_astray(), script);
-    ready_on(parted_astray(), script);
-    ready_on(pump_past_the_seats(), script);
-    ready_on(pump_says_bye(), script);
-    ready_on(ring_of_strangers(), script);
-    ready_on(counters_full(), script);
-    ready_on(too_many_seats(), script);
-    ready_on(all_ready(), script);
-    ready_on(turned(), script);
-    ready_on(gap_ahead(), script);
-    ready_on(gap_at_once(), script);
-    ready_on(strangers_ahead(), script);
-    ready_on(one_turn_ahead(), script);
-    ready_on(near_the_end(), script);
-    ready_on(at_the_end(), script);
-    ready_on(ready_though_over(), script);
-    ready_on(ready_for_none(), script);
+    from_each(to, at_the_last_tick(), script);
+    from_each(to, strangers_in_the_sets(), script);
+    from_each(to, plays_though_over(), script);
+    from_each(to, steps_elsewhere(), script);
+    from_each(to, prints_astray(), script);
+    from_each(to, parted_astray(), script);
+    from_each(to, pump_past_the_seats(), script);
+    from_each(to, pump_says_bye(), script);
+    from_each(to, ring_of_strangers(), script);
+    from_each(to, counters_full(), script);
+    from_each(to, too_many_seats(), script);
+    numbers(to, too_many_seats())?;
+    ready_on(to, at_the_last_tick(), script)?;
+    ready_on(to, strangers_in_the_sets(), script)?;
+    ready_on(to, plays_though_over(), script)?;
+    ready_on(to, steps_elsewhere(), script)?;
+    ready_on(to, prints_astray(), script)?;
+    ready_on(to, parted_astray(), script)?;
+    ready_on(to, pump_past_the_seats(), script)?;
+    ready_on(to, pump_says_bye(), script)?;
+    ready_on(to, ring_of_strangers(), script)?;
+    ready_on(to, counters_full(), script)?;
+    ready_on(to, too_many_seats(), script)?;
+    ready_on(to, all_ready(), script)?;
+    ready_on(to, turned(), script)?;
+    ready_on(to, gap_ahead(), script)?;
+    ready_on(to, gap_at_once(), script)?;
+    ready_on(to, strangers_ahead(), script)?;
+    ready_on(to, one_turn_ahead(), script)?;
+    ready_on(to, near_the_end(), script)?;
+    ready_on(to, at_the_end(), script)?;
+    ready_on(to, ready_though_over(), script)?;
+    ready_on(to, ready_for_none(), script)
 }

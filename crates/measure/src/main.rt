@@ -7,6 +7,8 @@
 //     calls  o open       s submit     x submit, a byte too long
 //            h Hello      i Inputs     e Inputs of eight ticks   d Digest   f Digest, which parts the two
 //            a advance    c commit     p pump   l leave   r report   w report, written   * and others: nothing
+#![tactic(auto)]
+
 mod asked;
 mod by_value;
 mod in_place;
@@ -14,7 +16,8 @@ mod told;
 
 ghost use Rattle.std.specs.Prelude.{◌≤◌, length};
 
-use libc::{STDIN_FILENO, STDOUT_FILENO};
+use std::io;
+use std::io::{Read, Stdout};
 
 // The first place of a byte from `from` on, or the end.
 fn find(bytes: &[u8], from: usize, sought: u8) -> usize
@@ -80,29 +83,26 @@ fn make(way: u8, turns: u64, calls: &[u8]) -> u64 {
     }
 }
 
-fn answer(job: &[u8]) {
+fn answer(to: Stdout, job: &[u8]) -> io::Result<()> {
     let blank = behind(job, b' ');
     let turns = count_in(job, blank);
     let sum = make(asked::call_at(job, 0), turns, &job[blank..]);
-    let mut text = [0u8; 20];
-    let n = io::decimal(sum, &mut text);
-    libc::write(STDOUT_FILENO, &text[..n]);
-    libc::write(STDOUT_FILENO, b"\n");
+    println!(to; "{sum}")
 }
 
-fn answer_all(jobs: &[u8]) {
+fn answer_all(to: Stdout, jobs: &[u8]) -> io::Result<()> {
     let mut from: usize = 0;
     while from < jobs.len() {
-        let to = find(jobs, from, b'\n');
-        answer(&jobs[from..to]);
-        from = to + 1;
+        let end = find(jobs, from, b'\n');
+        answer(to, &jobs[from..end])?;
+        from = end + 1;
     }
+    Ok(())
 }
 
 // The jobs are as many as one read brings.
-fn main() {
+fn main(rt: HostRuntime) -> io::Result<()> {
     let mut jobs = [0u8; 2048];
-    let got = libc::read(STDIN_FILENO, &mut jobs);
-    let end = io::count(got, &jobs);
-    answer_all(&jobs[..end]);
+    let end = rt.stdin().read(&mut jobs)?;
+    answer_all(rt.stdout(), &jobs[..end])
 }

@@ -37,7 +37,7 @@ pub enum Outbound {
 
 // An enum holds no array, so an Inputs' run stands beside the answer. It is zero past the frames, and beside anything
 // that is no Inputs.
-#[derive(Drop)]
+#[derive(Clone, Copy)]
 pub struct Pumped {
     pub session: Session,
     pub answer: Outbound,

@@ -95,7 +95,7 @@ pub struct Head {
     pub stats: SessionStats,
 }
 
-#[derive(Drop)]
+#[derive(Clone, Copy)]
 pub struct Session {
     pub head: Head,
     pub window: Window,
@@ -103,7 +103,7 @@ pub struct Session {
 }
 
 // What a call came to: a session with its answer beside it, or, of a call in place, the head.
-#[derive(Drop)]
+#[derive(Clone, Copy)]
 pub struct Opened {
     pub session: Session,
     pub answer: Validity,
@@ -124,7 +124,7 @@ pub enum Submit {
     WindowFull { tick: u64, pending: u64 },
 }
 
-#[derive(Drop)]
+#[derive(Clone, Copy)]
 pub struct Submitted {
     pub session: Session,
     pub answer: Submit,
@@ -151,7 +151,7 @@ pub enum Commit {
     DigestMismatch { tick: u64, owed: bool },
 }
 
-#[derive(Drop)]
+#[derive(Clone, Copy)]
 pub struct Committed {
     pub session: Session,
     pub answer: Commit,
@@ -186,7 +186,7 @@ pub enum Advance {
 }
 
 // An enum holds no array, so the step's rows stand beside the answer, in a record; they are zero where it is no step.
-#[derive(Drop)]
+#[derive(Clone, Copy)]
 pub struct Advanced {
     pub session: Session,
     pub answer: Advance,
@@ -206,7 +206,7 @@ pub enum Leave {
     BadState,
 }
 
-#[derive(Drop)]
+#[derive(Clone, Copy)]
 pub struct Left {
     pub session: Session,
     pub answer: Leave,

@@ -159,6 +159,12 @@ module _ (form : Form) (r : Reading) (piece : List ℕ) (s : Session) (begun sai
       ∙ reading_apart form s begun said next
       ∙ ap (behind said) f.reads
 
+-- what is used of the rest of a piece is within the piece, and is some of it
+pub fed_within : {form : Form} {r s : Reading} {more : ℕ} (piece : List ℕ) (used : ℕ) → used < length piece
+    → Feeds form r (drop used piece) more s → (used + more ≤ length piece) × (0 < more)
+fed_within piece used l f =
+    (omega (arith, l, rw length-drop at f.within), f.onward (rw length-drop (omega arith)))
+
 -- a piece that is fed as far as `used`: what it came to so far is at the front of `out`
 pub record FedTo (form : Form) (r : Reading) (piece : List ℕ) (s : Session) (begun : List ℕ) (have used : ℕ)
     (out : List ℕ) (size : ℕ) : Type 0 where

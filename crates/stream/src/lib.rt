@@ -1,6 +1,8 @@
 // Standard input to standard output, over the runner. The bytes come in pieces: a whole record in a piece is run where
 // it stands, and one that a piece breaks off is gathered in a buffer of its own. What is read and written is in no
 // contract, everything between is.
+#![tactic(auto)]
+
 ghost use Rattle.std.specs.Prelude.{◌+◌, ◌≤◌, ◌<◌, ◌≡◌, true, false, [], length, take};
 ghost use Rattle.window.specs.Window.{window_of};
 ghost use Rattle.fingerprint.specs.Cells.{prints_of};
@@ -10,10 +12,10 @@ ghost use Rattle.script.specs.Records.{record_size};
 ghost use Rattle.stream.specs.Stream.{reading_of, Begun, Gathers, bytes_of, Feeds, Reads};
 ghost use Rattle.runner.specs.Script.{reading, from};
 
-use libc::{STDIN_FILENO, STDOUT_FILENO};
 use logic::least;
 use runner::Form;
 use session::Head;
+use std::io::{Read, Stdin, Stdout};
 
 // How much is read at once.
 pub const PIECE: usize = 65536;
@@ -50,8 +52,8 @@ pub struct Waiting {
 }
 
 // Writes the bytes, all of them. It says whether that could be done.
-fn say(bytes: &[u8]) -> bool {
-    io::write_all(STDOUT_FILENO, bytes)
+fn say(to: Stdout, bytes: &[u8]) -> bool {
+    to.write_all(bytes).is_ok()
 }
 
 // The front of a slice, the whole of it at most.
@@ -216,6 +218,7 @@ fn feed(
 
 // A whole piece, its lines written.
 fn run_piece(
+    to: Stdout,
     h: Head,
     ring: &mut [u8; window::RING],
     ticks: &mut [u64; window::SLOTS],
@@ -270,7 +273,7 @@ fn run_piece(
         at = Waiting {
             head: head,
             have: fed.have,
-            going: say(front(out, fed.size)),
+            going: say(to, front(out, fed.size)),
         };
     }
     at
@@ -278,6 +281,7 @@ fn run_piece(
 
 // The whole records of some bytes, on a session that was made elsewhere.
 pub fn run_bytes(
+    to: Stdout,
     h: Head,
     ring: &mut [u8; window::RING],
     ticks: &mut [u64; window::SLOTS],
@@ -304,21 +308,24 @@ pub fn run_bytes(
     let mut line = [0u8; text::LIMIT];
     let mut out = [0u8; OUT];
     run_piece(
-        h, ring, ticks, present, held, printed, states, inputs, &mut begun, 0, &mut line, &mut out,
-        bytes, form,
+        to, h, ring, ticks, present, held, printed, states, inputs, &mut begun, 0, &mut line,
+        &mut out, bytes, form,
     )
 }
 
-// One read: how many bytes it brought. The input ends where it brings none.
-fn read_piece(piece: &mut [u8]) -> usize
+// One read: how many bytes it brought. The input ends where it brings none, or fails.
+fn read_piece(mut from: Stdin, piece: &mut [u8]) -> usize
     ensures { result ≤ length piece.old }
 {
-    let got = libc::read(STDIN_FILENO, piece);
-    io::count(got, piece)
+    match from.read(piece) {
+        Ok(n) => n,
+        Err(_) => 0,
+    }
 }
 
 // What a script ends in.
 fn finish(
+    to: Stdout,
     h: Head,
     ticks: &[u64; window::SLOTS],
     present: &[peer::Bits; window::SLOTS],
@@ -327,12 +334,12 @@ fn finish(
     form: Form,
 ) {
     let n = runner::end_lines(h, ticks, present, line, have, form);
-    say(front(line, n));
+    say(to, front(line, n));
 }
 
 // A proved loop has to end, and nothing says that the input does: the turns are counted down from a number that no run
 // uses up.
-pub fn run(form: Form) {
+pub fn run(from: Stdin, to: Stdout, form: Form) {
     let mut ring = [0u8; window::RING];
     let mut ticks = [0u64; window::SLOTS];
     let mut present = [0; window::SLOTS];
@@ -361,8 +368,9 @@ pub fn run(form: Form) {
     let mut going = true;
     let mut turns = u64::MAX;
     while turns > 0 && going {
-        let n = read_piece(&mut piece);
+        let n = read_piece(from, &mut piece);
         t = run_piece(
+            to,
             t.head,
             &mut ring,
             &mut ticks,
@@ -382,5 +390,5 @@ pub fn run(form: Form) {
         turns -= 1;
     }
     let head = t.head;
-    finish(head, &ticks, &present, t.have, &mut line, form);
+    finish(to, head, &ticks, &present, t.have, &mut line, form);
 }

@@ -18,7 +18,7 @@ const FRAME: usize = params::MAX_WIDTH as usize;
 
 pub const RING: usize = peer::SEATS as usize * SLOTS * FRAME;
 
-#[derive(Drop)]
+#[derive(Clone, Copy)]
 pub struct Window {
     pub ring: [u8; RING],
     pub ticks: [u64; SLOTS],
