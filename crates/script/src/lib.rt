@@ -48,7 +48,7 @@ fn byte_at(s: &[u8], at: usize) -> u8
 fn le(s: &[u8], at: usize, n: usize) -> u64
     requires { (n ≤ 8) × (at + n ≤ 65535) }
     ensures value { result ≡ le s.now at n }
-    ensures upper_bound { result < 2 ^ (8 * n) }
+    ensures fits_bytes { result < 2 ^ (8 * n) }
 {
     let mut value: u64 = 0;
     let mut i = n;
@@ -62,7 +62,7 @@ fn le(s: &[u8], at: usize, n: usize) -> u64
 // How many bytes the first record has, once all of them are there; else 0.
 pub fn record_size(bytes: &[u8]) -> usize
     ensures value { result ≡ record_size bytes.now }
-    ensures bytes_len_bound { result ≡ 0 → length bytes.now < longest }
+    ensures short_if_lacking { result ≡ 0 → length bytes.now < longest }
 {
     let have = bytes.len();
     if have < HEADER {
@@ -78,7 +78,7 @@ pub fn record_size(bytes: &[u8]) -> usize
 // How many bytes a record that has begun waits for: those of its header, and then those of its payload.
 pub fn record_lacks(bytes: &[u8]) -> usize
     ensures value { result ≡ record_lacks bytes.now }
-    ensures result_len_bound { record_size bytes.now ≡ 0 → length bytes.now + result ≤ longest }
+    ensures within_longest { record_size bytes.now ≡ 0 → length bytes.now + result ≤ longest }
 {
     let have = bytes.len();
     if have < HEADER {

@@ -128,7 +128,7 @@ fn feed_one(
         (prints_of held.new printed.new states.new inputs.new))
         (take result.have begun.new) (take result.size line.new)) }
     ensures begun { Begun begun.new result.have }
-    ensures size_le_text_limit { result.size ≤ text_limit }
+    ensures within_limit { result.size ≤ text_limit }
 {
     let g = gather(begun, have, piece);
     let record = bytes_of(&*begun, piece, g);
@@ -179,7 +179,7 @@ fn feed(
         (prints_of held.new printed.new states.new inputs.new))
         (take result.have begun.new) (take result.size out.new)) }
     ensures begun { Begun begun.new result.have }
-    ensures size_in_bounds { result.size ≤ length out.new }
+    ensures within_out { result.size ≤ length out.new }
 {
     let mut at = Fed {
         head: h,
@@ -293,13 +293,13 @@ pub fn run_bytes(
     bytes: &[u8],
     form: Form,
 ) -> Waiting
-    ensures bytes_value { result.going ≡ true → (reading form
+    ensures session { result.going ≡ true → (reading form
         (from (session_of h (window_of ring.old ticks.old present.old)
         (prints_of held.old printed.old states.old inputs.old)))
         bytes.now).session
         ≡ session_of result.head (window_of ring.new ticks.new present.new)
         (prints_of held.new printed.new states.new inputs.new) }
-    ensures bytes_len { result.going ≡ true → length (reading form
+    ensures have { result.going ≡ true → length (reading form
         (from (session_of h (window_of ring.old ticks.old present.old)
         (prints_of held.old printed.old states.old inputs.old)))
         bytes.now).begun ≡ result.have }

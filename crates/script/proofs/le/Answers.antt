@@ -46,4 +46,4 @@ pub returns : goal.returns
 returns c =
     let z : c.loop-i.i ≡ 0 = omega arith in
     let e : c.args.n - 0 ≡ c.args.n = omega arith in
-    record { value = rw (z, add-zero, e) at c.loop-i.invariant.1; upper_bound = rw (z, e) at c.loop-i.invariant.2 }
+    record { value = rw (z, add-zero, e) at c.loop-i.invariant.1; fits_bytes = rw (z, e) at c.loop-i.invariant.2 }

@@ -36,7 +36,7 @@ loop-at-preserved c =
     let kept = c.put_within-size.auto.out in
     let said = rw c.front.ensures at c.put_within-size.ensures in (
       fed_more c.args.form _ _ _ _ _ _ _ _ _ _ _ _ _ _ _ _ c.loop-at.invariant.0 (rw (from_on _ _) at one.feeds)
-          one.begun one.size_le_text_limit c.loop-at-test.true c.if-out-at-ge-LIMIT.true kept said,
+          one.begun one.within_limit c.loop-at-test.true c.if-out-at-ge-LIMIT.true kept said,
       kept ∙ c.loop-at.invariant.1,
     )
 
@@ -50,7 +50,7 @@ returns-else-out-at-ge-LIMIT c =
     record {
       feeds = record { within = f.within; onward = λ l. some; reads = f.reads };
       begun = f.rest;
-      size_in_bounds = f.room;
+      within_out = f.room;
     }
 
 pub returns-after-loop-at : goal.returns-after-loop-at
@@ -59,5 +59,5 @@ returns-after-loop-at c =
     record {
       feeds = record { within = f.within; onward = λ l. omega (arith, l, c.loop-at-test.false); reads = f.reads };
       begun = f.rest;
-      size_in_bounds = f.room;
+      within_out = f.room;
     }

@@ -18,7 +18,7 @@ returns-then-record_size-eq0 c =
     record {
       feeds = feeds_part c.args.form _ _ _ _ _ c.requires.part g.gathers part (rw begun.1);
       begun = begun.0;
-      size_le_text_limit = omega arith;
+      within_limit = omega arith;
     }
 
 pub returns : goal.returns
@@ -32,5 +32,5 @@ returns c =
     record {
       feeds = feeds_whole c.args.form _ _ _ _ _ c.requires.part g.ensures.gathers some ran;
       begun = none_begun _ (c.gather-g.auto.begun ∙ c.requires.room);
-      size_le_text_limit = omega (arith, size, ran.fits);
+      within_limit = omega (arith, size, ran.fits);
     }

@@ -41,7 +41,7 @@ returns c =
     let used = c.least-used.result in
     let fewest : used ≡ min (record_lacks had-begun) (length piece) = rw (← lacks.value) c.least-used.ensures in
     let waits : length had-begun + record_lacks had-begun ≤ longest =
-    rw (← lacks.value) (lacks.result_len_bound c.requires.part) in
+    rw (← lacks.value) (lacks.within_longest c.requires.part) in
     let size : length (take used piece) ≡ used = length-take-le used piece (omega arith) in
     let fits : have + length (take used piece) ≤ length begun =
     omega (arith, size, fewest, waits, had, c.requires.room) in

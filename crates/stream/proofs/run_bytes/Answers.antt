@@ -16,7 +16,7 @@ unfolding from
 returns c =
     let ran = c.run_piece.ensures in
     record {
-      bytes_value = λ going. (ran.reads going).next;
-      bytes_len = λ going.
+      session = λ going. (ran.reads going).next;
+      have = λ going.
           ap length (ran.reads going).rest ∙ length-take-le _ _ (omega (arith, ran.begun.room, ran.begun.short));
     }
