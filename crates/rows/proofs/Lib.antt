@@ -1,3 +1,4 @@
 mod Loops
 pub mod Laws
 mod Examples
+mod Unmapped

@@ -7,7 +7,8 @@ use Rattle.script.proofs.Laws.{from_on, rest_within}
 use Rattle.script.proofs.rest_of.Goals as goal
 
 pub slice_bounds-result-count : goal.slice_bounds-result-count
-slice_bounds-result-count c = rw c.rest_start-from.ensures (rest_within _ _)
+slice_bounds-result-count c =
+    omega (arith, c.rest_start-from.ensures, rest_within c.le.result (length c.args.bytes.now))
 
 pub slice_bounds-result-start : goal.slice_bounds-result-start
 slice_bounds-result-start c = omega (arith, rest_within c.le.result (length c.args.bytes.now))
