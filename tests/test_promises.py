@@ -134,6 +134,7 @@ class Heads(unittest.TestCase):
             ("impl Set {", "Set"), ("impl<'a> Reader<'a> {", "Reader"), ("impl crate::sets::Set {", "Set"),
             ("mod sets {", "sets"), ("pub mod sets {", "sets"), ("pub(crate) mod sets {", "sets"),
             ("#[cfg(x)]\nmod sets {\nimpl Set {", "sets::Set"),
+            ("impl Numbered for Set {", "SetNumbered"), ("impl From<sets::Bad> for Set {", "SetFromBad"),
         ):
             closed = "}\n" * block.count("{")
             self.assertEqual(

@@ -104,10 +104,34 @@ def scope_of(item):
     if words[0] == "extern":
         return ""
     if words[0] == "impl":
-        named = words[words.index(">") + 1:] if words[1] == "<" else words[1:]
-        path = named[:named.index("<")] if "<" in named else named[:-1]
-        return path[-1] + "::"
+        path = without_arguments(words[1:-1])
+        if "for" not in path:
+            return path[-1] + "::"
+        # the type and then the trait with its arguments, in one word, as the checker names the proofs of an
+        # `impl Tr<A> for X`
+        at = path.index("for")
+        subject = "Unit" if path[at + 1] == "(" else path[-1]
+        given = arguments(words[:words.index("for")])
+        return "".join(word[0].upper() + word[1:] for word in (subject, path[at - 1], *given)) + "::"
     return None
+
+
+def arguments(words):
+    """The last word of each argument of the `<..>` that these words end in, if they do."""
+    if words[-1] != ">":
+        return []
+    inner = words[len(words) - words[::-1].index("<"):-1]
+    return [part.split()[-1] for part in " ".join(inner).split(",")]
+
+
+def without_arguments(words):
+    """The words that stand in no `<..>`."""
+    depth, left = 0, []
+    for word in words:
+        depth += (word == "<") - (word == ">")
+        if depth == 0 and word != ">":
+            left.append(word)
+    return left
 
 
 class Reader:
