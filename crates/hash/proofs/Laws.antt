@@ -1,7 +1,9 @@
 -- Laws of FNV-1a: a run in two parts, the bound, and one byte more of a slice or of a number.
 -- Assumes nothing.
 use Rattle.std.proofs.Common.{◌≡◌, ℕ, zero, suc, ◌+◌, ◌-◌, ◌*◌, ◌/◌, ◌%◌, ◌^◌, ◌<◌, ◌≤◌, List, [], ◌∷◌, ◌++◌, length, get_or, drop, refl, ap, not-suc-le-zero, mod-lt, add-one, sub-one, drop_of_length-le, drop-cons, pow_pos}
+use native.Mathlib.Nat.{div-div-eq-div-mul}
 use lib.Bits.{bit_xor}
+use Rattle.std.specs.Int.{w32, w64, to_le_bytes}
 use Rattle.hash.specs.Fnv.{step, prime, fnv, le_bytes}
 
 -- the bytes of two lists, one after the other
@@ -42,3 +44,12 @@ pub length-le_bytes : (n v : ℕ) → length (le_bytes n v) ≡ n
 unfolding le_bytes
 length-le_bytes zero v = refl
 length-le_bytes (suc n) v = ap suc (length-le_bytes n (v / 256))
+
+-- the library's bytes of a number are those of the definition
+pub le_bytes_4 : (v : ℕ) → to_le_bytes w32 v ≡ le_bytes 4 v
+unfolding le_bytes
+le_bytes_4 v = simp div-div-eq-div-mul refl
+
+pub le_bytes_8 : (v : ℕ) → to_le_bytes w64 v ≡ le_bytes 8 v
+unfolding le_bytes
+le_bytes_8 v = simp div-div-eq-div-mul refl

@@ -15,7 +15,8 @@ const PRIME_REST: u64 = 435;
 const HALF: u64 = 0x1_0000_0000;
 
 // a * b, modulo 2^64, by halves of 32 bits. The product of the two upper halves is a multiple of 2^64, and of the two
-// cross products only the lower halves count: the shift drops the rest.
+// cross products only the lower halves count: the shift drops the rest. Document 01 names this form, halves and the
+// supplied wrapping add, so it is not the library's wrapping_mul.
 pub fn wrapping_mul(a: u64, b: u64) -> u64
     ensures { result ≡ a * b % 2 ^ 64 }
 {
@@ -37,7 +38,7 @@ fn times_prime(h: u64) -> u64
 
 // A fingerprint in progress. Absorbing hands the next one back, so the order of what goes in is written out as an
 // expression.
-#[derive(Clone, Copy)]
+#[derive(Clone, Copy, Debug, PartialEq, Eq)]
 pub struct StateHash {
     pub value: u64,
 }
@@ -54,7 +55,7 @@ impl StateHash {
     {
         let h = self.value;
         Self {
-            value: times_prime(h ^ (byte as u64)),
+            value: times_prime(h ^ u64::from(byte)),
         }
     }
 
@@ -62,25 +63,8 @@ impl StateHash {
         ensures { result.value ≡ fnv self.value bytes.now }
     {
         let mut h = self;
-        let mut i = 0;
-        while i < bytes.len() {
-            h = h.absorb_byte(bytes[i]);
-            i += 1;
-        }
-        h
-    }
-
-    // The count low bytes of a number, the lowest first.
-    fn absorb_low(self, value: u64, count: u64) -> Self
-        ensures { result.value ≡ fnv self.value (le_bytes count value) }
-    {
-        let mut h = self;
-        let mut v = value;
-        let mut n = count;
-        while 0 < n {
-            h = h.absorb_byte((v % 256) as u8);
-            v = v / 256;
-            n -= 1;
+        for &byte in bytes {
+            h = h.absorb_byte(byte);
         }
         h
     }
@@ -88,13 +72,13 @@ impl StateHash {
     pub fn absorb_u64(self, value: u64) -> Self
         ensures { result.value ≡ fnv self.value (le_bytes 8 value) }
     {
-        self.absorb_low(value, 8)
+        self.absorb_bytes(&u64::to_le_bytes(value))
     }
 
     pub fn absorb_u32(self, value: u32) -> Self
         ensures { result.value ≡ fnv self.value (le_bytes 4 value) }
     {
-        self.absorb_low(value as u64, 4)
+        self.absorb_bytes(&u32::to_le_bytes(value))
     }
 
     pub fn finish(self) -> u64

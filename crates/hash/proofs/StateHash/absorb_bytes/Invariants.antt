@@ -1,9 +1,6 @@
-use Rattle.std.proofs.Common.{◌≡◌, ◌-◌, ◌≤◌, length, drop}
+use Rattle.std.proofs.Common.{◌≡◌, drop}
 use Rattle.hash.specs.Fnv.{fnv}
 use Rattle.hash.proofs.StateHash.absorb_bytes.Given as goal
 
-abbrev pub invariant-loop-i : goal.invariant-loop-i
-invariant-loop-i l = (l.i ≤ length l.bytes) × (fnv l.h.value (drop l.i l.bytes) ≡ fnv l.initial.h.value l.bytes)
-
-abbrev pub decreases-loop-i : goal.decreases-loop-i
-decreases-loop-i l = length l.bytes - l.i
+abbrev pub invariant-loop-byte : goal.invariant-loop-byte
+invariant-loop-byte l = fnv l.h.value (drop l.byte-index l.bytes) ≡ fnv l.initial.h.value l.bytes

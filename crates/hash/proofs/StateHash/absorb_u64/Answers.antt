@@ -1,0 +1,9 @@
+-- `hash::StateHash::absorb_u64` meets its contract: the library's bytes are those of the definition. Assumes nothing.
+use Rattle.std.proofs.Common.{ap, ◌∙◌}
+use Rattle.hash.specs.Fnv.{fnv}
+use Rattle.hash.proofs.Laws.{le_bytes_8}
+use Rattle.hash.proofs.StateHash.absorb_u64.Goals as goal
+
+pub returns : goal.returns
+returns c =
+    c.absorb_bytes.ensures ∙ ap (fnv c.args.self.value) (c.to_le_bytes.ensures ∙ le_bytes_8 c.args.value)
