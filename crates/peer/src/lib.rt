@@ -12,7 +12,7 @@ pub type Bits = u8;
 
 const ONE: Bits = 1;
 
-#[derive(Clone, Copy)]
+#[derive(Clone, Copy, Debug, PartialEq, Eq)]
 pub struct PeerSet(pub Bits);
 
 impl PeerSet {
@@ -84,14 +84,14 @@ impl PeerSet {
     pub fn count(self) -> u32
         ensures { result ≡ seat_count seats self.0 }
     {
-        let wide = self.0 as u64;
-        u64::count_ones(wide)
+        self.0.count_ones()
     }
 
     pub fn bits(self) -> Bits
         ensures { result ≡ self.0 }
     {
-        return self.0;
+        let PeerSet(bits) = self;
+        bits
     }
 }
 
