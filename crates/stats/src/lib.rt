@@ -6,7 +6,7 @@ ghost use Rattle.stats.specs.Stats.{raised_if, no_stats, counted_of, stalled_of}
 
 use logic::{is_outside, raise};
 
-#[derive(Clone, Copy)]
+#[derive(Clone, Copy, Debug, Default, PartialEq, Eq)]
 pub struct SessionStats {
     pub datagrams_refused: u64,
     pub frames_repeated: u64,
@@ -19,24 +19,14 @@ pub struct SessionStats {
 fn raise_if(on: bool, n: u64) -> u64
     ensures { result ≡ raised_if on n }
 {
-    if on {
-        return raise(n);
-    }
-    n
+    if on { raise(n) } else { n }
 }
 
 impl SessionStats {
     pub fn new() -> Self
         ensures { result ≡ no_stats }
     {
-        SessionStats {
-            datagrams_refused: 0,
-            frames_repeated: 0,
-            frames_contradicted: 0,
-            frames_out_of_window: 0,
-            digests_contradicted: 0,
-            stall_pumps: 0,
-        }
+        SessionStats::default()
     }
 
     // The counters after a delivery that answered `number`.
@@ -57,24 +47,20 @@ impl SessionStats {
     pub fn stalled(self, again: bool) -> Self
         ensures { result ≡ stalled_of self again }
     {
-        if again {
-            return SessionStats {
-                stall_pumps: raise(self.stall_pumps),
-                ..self
-            };
-        }
+        let stalls = if again { self.stall_pumps } else { 0 };
         SessionStats {
-            stall_pumps: raise(0),
+            stall_pumps: raise(stalls),
             ..self
         }
     }
 }
 
-// The same as `counted` for counters that are lent.
+// The same as `counted` for counters that are lent: document 01 names this form, "over a covered by-value function
+// first".
 pub fn record_refusal(stats: &mut SessionStats, number: u8)
     ensures { stats.new ≡ counted_of stats.old number }
 {
-    *stats = (*stats).counted(number);
+    *stats = stats.counted(number);
 }
 
 // Lends its own copy, so that whoever calls this one holds plain counters.

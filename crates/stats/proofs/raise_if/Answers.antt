@@ -7,6 +7,6 @@ pub returns-then-on : goal.returns-then-on
 unfolding raised_if when◌then◌else◌
 returns-then-on c = rw c.if-on.true c.raise.ensures
 
-pub returns : goal.returns
+pub returns-else-on : goal.returns-else-on
 unfolding raised_if when◌then◌else◌
-returns c = rw c.if-on.false
+returns-else-on c = rw c.if-on.false
