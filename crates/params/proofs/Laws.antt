@@ -2,6 +2,8 @@
 -- Assumes nothing.
 use mathlib.Core.Path.{◌≡◌, refl, ◌∙◌}
 use mathlib.Core.Bool.{true, false, not, ◌&&◌, true≢false}
+use Rattle.std.specs.Prelude.{Result, Ok, Err}
+use Rattle.std.specs.Result.{is_err}
 use Prim.Native.Nat.{ℕ, ◌≤◌, ◌<◌}
 use lib.Dec.{eqb, ltb}
 use borrow.Author.Tests.{ltb-true, ltb-false, eqb-false, not-false}
@@ -10,7 +12,9 @@ use Rattle.logic.proofs.Cases.{by_test, or_neither}
 use Rattle.peer.specs.Seats.{seats, has}
 use Rattle.peer.proofs.Laws.{has_first, has-removing}
 use Rattle.params.specs.declared.SessionParams.{SessionParams}
-use Rattle.params.specs.declared.Validity.{Validity}
+use Rattle.params.specs.declared.ParamsError.{ParamsError}
+use Rattle.params.specs.declared.ParamsError.TheVariants.{PeerCount, LocalNotInRoster, InputBytes}
+use Rattle.params.specs.declared.ParamsError.TheVariants.{InputDelay, DigestPeriodZero, SessionZero}
 use Rattle.params.specs.Params.{min_peers, max_width, max_delay, validity, validity_no, bad_state, roster_of, remotes_of}
 
 -- within both ends
@@ -33,10 +37,20 @@ pub record Sound (p : SessionParams) : Type 0 where
   pub period : p.period ≡ 0 → ⊥
   pub session : p.session ≡ 0 → ⊥
 
-record Passes (p : SessionParams) (v : Validity) : Type 0 where
+-- every refusal has a number
+pub refused_or_not : (v : Result (Unit {0}) ParamsError) → is_err v ≡ not (eqb (validity_no v) 0)
+refused_or_not (Ok x) = refl
+refused_or_not (Err (PeerCount saw floor ceiling)) = refl
+refused_or_not (Err (LocalNotInRoster local count)) = refl
+refused_or_not (Err (InputBytes saw ceiling)) = refl
+refused_or_not (Err (InputDelay saw limit)) = refl
+refused_or_not (Err DigestPeriodZero) = refl
+refused_or_not (Err SessionZero) = refl
+
+record Passes (p : SessionParams) (v : Result (Unit {0}) ParamsError) : Type 0 where
   so : not (eqb (validity_no v) 0) ≡ false → Sound p
 
-refused : {p : SessionParams} {v : Validity} → not (eqb (validity_no v) 0) ≡ true → Passes p v
+refused : {p : SessionParams} {v : Result (Unit {0}) ParamsError} → not (eqb (validity_no v) 0) ≡ true → Passes p v
 refused e = record { so = λ f. absurd (true≢false (cc)) }
 
 passes : (p : SessionParams) → Passes p (validity p)

@@ -2,10 +2,10 @@
 #![tactic(auto)]
 
 ghost use Rattle.std.specs.Prelude.{◌≡◌};
-ghost use Rattle.params.specs.Params.{validity, validity_no, bad_state, agreement_of, roster_of, remotes_of};
+ghost use Rattle.params.specs.Params.{validity, error_no, bad_state, check_of, agreement_of, roster_of, remotes_of};
 
 use hash::StateHash;
-use logic::is_outside;
+use logic::{Numbered, is_outside};
 use peer::PeerSet;
 
 // The smallest circle: one reader alone needs no session.
@@ -22,7 +22,7 @@ pub const INPUT_WINDOW: u32 = peer::WINDOW as u32;
 // What the agreement starts with, so that players of another version of it disagree by number.
 const VERSION: u32 = 3;
 
-#[derive(Clone, Copy)]
+#[derive(Clone, Copy, Debug, Default, PartialEq, Eq)]
 pub struct SessionParams {
     pub count: u8,
     pub local: u8,
@@ -35,10 +35,9 @@ pub struct SessionParams {
     pub session: u64,
 }
 
-// Whether parameters can start a session, or the first check that fails, with what it saw.
-#[derive(Clone, Copy)]
-pub enum Validity {
-    Valid,
+// Why parameters cannot start a session: the first check that fails, with what it saw.
+#[derive(Clone, Copy, Debug, PartialEq, Eq)]
+pub enum ParamsError {
     PeerCount { saw: u8, floor: u8, ceiling: u8 },
     LocalNotInRoster { local: u8, count: u8 },
     InputBytes { saw: u8, ceiling: u8 },
@@ -47,70 +46,86 @@ pub enum Validity {
     SessionZero,
 }
 
-impl Validity {
-    // Document 01's number.
-    pub fn number(self) -> u8
-        ensures { result ≡ validity_no self }
-    {
+impl Numbered for ParamsError {
+    ghost number_of = { error_no };
+
+    fn number(self) -> u8 {
         match self {
-            Validity::Valid => 0,
-            Validity::PeerCount {
-                saw: _,
-                floor: _,
-                ceiling: _,
-            } => 11,
-            Validity::LocalNotInRoster { local: _, count: _ } => 12,
-            Validity::InputBytes { saw: _, ceiling: _ } => 13,
-            Validity::InputDelay { saw: _, window: _ } => 14,
-            Validity::DigestPeriodZero => 15,
-            Validity::SessionZero => 16,
+            ParamsError::PeerCount { .. } => 11,
+            ParamsError::LocalNotInRoster { .. } => 12,
+            ParamsError::InputBytes { .. } => 13,
+            ParamsError::InputDelay { .. } => 14,
+            ParamsError::DigestPeriodZero => 15,
+            ParamsError::SessionZero => 16,
         }
     }
 }
 
+// The parameters fail 11 to 16: every session call over them is refused with this.
+#[derive(Clone, Copy, Debug, PartialEq, Eq)]
+pub struct BadState;
+
+impl Numbered for BadState {
+    ghost number_of = { λ _. 20 };
+
+    fn number(self) -> u8 {
+        20
+    }
+}
+
 impl SessionParams {
-    pub fn validate(self) -> Validity
+    pub fn validate(self) -> Result<(), ParamsError>
         ensures { result ≡ validity self }
     {
         if is_outside(self.count, MIN_PEERS, peer::SEATS) {
-            return Validity::PeerCount {
+            return Err(ParamsError::PeerCount {
                 saw: self.count,
                 floor: MIN_PEERS,
                 ceiling: peer::SEATS,
-            };
+            });
         }
         if self.local >= self.count {
-            return Validity::LocalNotInRoster {
+            return Err(ParamsError::LocalNotInRoster {
                 local: self.local,
                 count: self.count,
-            };
+            });
         }
         if is_outside(self.width, 1, MAX_WIDTH) {
-            return Validity::InputBytes {
+            return Err(ParamsError::InputBytes {
                 saw: self.width,
                 ceiling: MAX_WIDTH,
-            };
+            });
         }
         if self.delay > MAX_DELAY {
-            return Validity::InputDelay {
+            return Err(ParamsError::InputDelay {
                 saw: self.delay,
                 window: INPUT_WINDOW,
-            };
+            });
         }
         if self.period == 0 {
-            return Validity::DigestPeriodZero;
+            return Err(ParamsError::DigestPeriodZero);
         }
         if self.session == 0 {
-            return Validity::SessionZero;
+            return Err(ParamsError::SessionZero);
         }
-        Validity::Valid
+        Ok(())
     }
 
-    // The parameters fail 11 to 16: every session call over them is refused with 20.
     pub fn bad_state(self) -> bool
         ensures { result ≡ bad_state self }
     {
-        self.validate().number() != 0
+        self.validate().is_err()
+    }
+
+    // `bad_state` as what a call is refused with.
+    pub fn check(self) -> Result<(), BadState>
+        ensures { result ≡ check_of self }
+    {
+        if self.bad_state() {
+            Err(BadState)
+        } else {
+            Ok(())
+        }
     }
 
     // The number that every player puts in its Hello. The local seat is left out, as it differs from player to player,
@@ -123,10 +138,10 @@ impl SessionParams {
             .absorb_u64(self.content)
             .absorb_u64(self.rules)
             .absorb_u64(self.seed)
-            .absorb_u32(self.count as u32)
-            .absorb_u32(self.width as u32)
-            .absorb_u32(self.delay as u32)
-            .absorb_u32(self.period as u32)
+            .absorb_u32(u32::from(self.count))
+            .absorb_u32(u32::from(self.width))
+            .absorb_u32(u32::from(self.delay))
+            .absorb_u32(u32::from(self.period))
             .finish()
     }
 

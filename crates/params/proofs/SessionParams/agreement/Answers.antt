@@ -21,4 +21,8 @@ returns c =
       wide.absorb_u64.ensures,
       wide.absorb_u32.ensures,
       wide.new.ensures,
+      c.from.ensures,
+      c.from-2.ensures,
+      c.from-3.ensures,
+      c.from-4.ensures,
     ))
