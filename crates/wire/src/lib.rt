@@ -3,15 +3,15 @@
 #![tactic(auto)]
 
 ghost use Rattle.std.specs.Prelude.{◌≡◌};
-ghost use Rattle.wire.specs.Wire.{hello_form, inputs_form, other_form, form_of, reason_no};
+ghost use Rattle.wire.specs.Wire.{width_form, hello_form, inputs_form, other_form, form_of, reason_no};
 
-use logic::{is_outside, wide};
+use logic::{Numbered, is_outside};
 
 // How many frames an Inputs carries at most: the newest and seven before it.
 pub const REDUNDANCY: u8 = 8;
 
 // I am here, and this is what I believe we play. The agreement number decides, the rest explains.
-#[derive(Clone, Copy)]
+#[derive(Clone, Copy, Debug, PartialEq, Eq)]
 pub struct HelloBody {
     pub agreement: u64,
     pub content: u64,
@@ -25,7 +25,7 @@ pub struct HelloBody {
 
 // My presses for `count` ticks in a row, of `width` bytes each, in a run of bytes that stands beside the record: frame
 // i belongs to tick first + i.
-#[derive(Clone, Copy)]
+#[derive(Clone, Copy, Debug, PartialEq, Eq)]
 pub struct InputsBody {
     pub first: u64,
     pub count: u8,
@@ -33,7 +33,7 @@ pub struct InputsBody {
 }
 
 // What my world and my inputs hashed to after a tick.
-#[derive(Clone, Copy)]
+#[derive(Clone, Copy, Debug, PartialEq, Eq)]
 pub struct DigestBody {
     pub tick: u64,
     pub state: u64,
@@ -41,13 +41,13 @@ pub struct DigestBody {
 }
 
 // I leave, and this is the last tick that I committed.
-#[derive(Clone, Copy)]
+#[derive(Clone, Copy, Debug, PartialEq, Eq)]
 pub struct ByeBody {
     pub tick: u64,
 }
 
 // Other: Chat, Join, Roster and Start as 1 to 4. A session refuses them, so that is all it needs of them.
-#[derive(Clone, Copy)]
+#[derive(Clone, Copy, Debug, PartialEq, Eq)]
 pub enum Body {
     Hello(HelloBody),
     Inputs(InputsBody),
@@ -56,7 +56,7 @@ pub enum Body {
     Other(u8),
 }
 
-#[derive(Clone, Copy)]
+#[derive(Clone, Copy, Debug, PartialEq, Eq)]
 pub struct Message {
     pub sender: u8,
     pub session: u64,
@@ -64,7 +64,7 @@ pub struct Message {
 }
 
 // Why a message is malformed, with what was seen.
-#[derive(Clone, Copy)]
+#[derive(Clone, Copy, Debug, PartialEq, Eq)]
 pub enum WireError {
     SenderPastCeiling { saw: u8, ceiling: u8 },
     SessionZero,
@@ -78,133 +78,120 @@ pub enum WireError {
     UnknownKind { saw: u8 },
 }
 
-#[derive(Clone, Copy)]
-pub enum Form {
-    Good,
-    Malformed(WireError),
-}
+// Document 01's number of the reason.
+impl Numbered for WireError {
+    ghost number_of = { reason_no };
 
-impl WireError {
-    // Document 01's number of the reason.
-    pub fn number(self) -> u8
-        ensures { result ≡ reason_no self }
-    {
+    fn number(self) -> u8 {
         match self {
-            WireError::SenderPastCeiling { saw: _, ceiling: _ } => 1,
+            WireError::SenderPastCeiling { .. } => 1,
             WireError::SessionZero => 2,
-            WireError::PeerCount {
-                saw: _,
-                floor: _,
-                ceiling: _,
-            } => 3,
-            WireError::InputBytes { saw: _, ceiling: _ } => 4,
-            WireError::InputDelay { saw: _, window: _ } => 5,
+            WireError::PeerCount { .. } => 3,
+            WireError::InputBytes { .. } => 4,
+            WireError::InputDelay { .. } => 5,
             WireError::DigestPeriodZero => 6,
-            WireError::FrameCount { saw: _, ceiling: _ } => 7,
-            WireError::RunLength {
-                declared: _,
-                actual: _,
-            } => 8,
-            WireError::TickOverflow { first: _, count: _ } => 9,
-            WireError::UnknownKind { saw: _ } => 10,
+            WireError::FrameCount { .. } => 7,
+            WireError::RunLength { .. } => 8,
+            WireError::TickOverflow { .. } => 9,
+            WireError::UnknownKind { .. } => 10,
         }
     }
 }
 
+// Of a Hello and of an Inputs.
+fn width_form(width: u8) -> Result<(), WireError>
+    ensures { result ≡ width_form width }
+{
+    if is_outside(width, 1, params::MAX_WIDTH) {
+        return Err(WireError::InputBytes {
+            saw: width,
+            ceiling: params::MAX_WIDTH,
+        });
+    }
+    Ok(())
+}
+
 impl HelloBody {
-    fn form(self) -> Form
+    fn form(self) -> Result<(), WireError>
         ensures { result ≡ hello_form self }
     {
         if is_outside(self.count, params::MIN_PEERS, peer::SEATS) {
-            return Form::Malformed(WireError::PeerCount {
+            return Err(WireError::PeerCount {
                 saw: self.count,
                 floor: params::MIN_PEERS,
                 ceiling: peer::SEATS,
             });
         }
-        if is_outside(self.width, 1, params::MAX_WIDTH) {
-            return Form::Malformed(WireError::InputBytes {
-                saw: self.width,
-                ceiling: params::MAX_WIDTH,
-            });
-        }
+        width_form(self.width)?;
         if self.delay > params::MAX_DELAY {
-            return Form::Malformed(WireError::InputDelay {
+            return Err(WireError::InputDelay {
                 saw: self.delay,
                 window: params::INPUT_WINDOW,
             });
         }
         if self.period == 0 {
-            return Form::Malformed(WireError::DigestPeriodZero);
+            return Err(WireError::DigestPeriodZero);
         }
-        Form::Good
+        Ok(())
     }
 }
 
 impl InputsBody {
-    fn form(self, length: usize) -> Form
+    fn form(self, length: usize) -> Result<(), WireError>
         ensures { result ≡ inputs_form self length }
     {
-        if is_outside(self.width, 1, params::MAX_WIDTH) {
-            return Form::Malformed(WireError::InputBytes {
-                saw: self.width,
-                ceiling: params::MAX_WIDTH,
-            });
-        }
+        width_form(self.width)?;
         if is_outside(self.count, 1, REDUNDANCY) {
-            return Form::Malformed(WireError::FrameCount {
+            return Err(WireError::FrameCount {
                 saw: self.count,
                 ceiling: REDUNDANCY,
             });
         }
-        let declared = wide(self.count) * wide(self.width);
+        let declared = usize::from(self.count) * usize::from(self.width);
         if length != declared {
-            return Form::Malformed(WireError::RunLength {
-                declared: declared,
+            return Err(WireError::RunLength {
+                declared,
                 actual: length,
             });
         }
-        let count = self.count as u64;
-        if logic::MOST - self.first < count {
-            return Form::Malformed(WireError::TickOverflow {
+        if self.first.checked_add(u64::from(self.count)).is_none() {
+            return Err(WireError::TickOverflow {
                 first: self.first,
                 count: self.count,
             });
         }
-        Form::Good
+        Ok(())
     }
 }
 
-fn other_form(kind: u8) -> Form
+fn other_form(kind: u8) -> Result<(), WireError>
     ensures { result ≡ other_form kind }
 {
     if is_outside(kind, 1, 4) {
-        return Form::Malformed(WireError::UnknownKind { saw: kind });
+        return Err(WireError::UnknownKind { saw: kind });
     }
-    Form::Good
+    Ok(())
 }
 
 impl Message {
     // Whether the message, with its run beside it, has the form of its kind; the reason with the lowest number where it
     // has not.
-    pub fn form(self, run: &[u8]) -> Form
+    pub fn form(self, run: &[u8]) -> Result<(), WireError>
         ensures { result ≡ form_of self run.now }
     {
         if self.sender >= peer::SEATS {
-            return Form::Malformed(WireError::SenderPastCeiling {
+            return Err(WireError::SenderPastCeiling {
                 saw: self.sender,
                 ceiling: peer::SEATS,
             });
         }
         if self.session == 0 {
-            return Form::Malformed(WireError::SessionZero);
+            return Err(WireError::SessionZero);
         }
-        let body = self.body;
-        match body {
+        match self.body {
             Body::Hello(hello) => hello.form(),
             Body::Inputs(inputs) => inputs.form(run.len()),
-            Body::Digest(_) => Form::Good,
-            Body::Bye(_) => Form::Good,
+            Body::Digest(_) | Body::Bye(_) => Ok(()),
             Body::Other(kind) => other_form(kind),
         }
     }

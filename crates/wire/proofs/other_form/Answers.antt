@@ -1,13 +1,13 @@
 -- `wire::other_form` meets its contract. Assumes nothing.
-use mathlib.Core.Path.{sym, ◌∙◌}
+use Rattle.std.proofs.Common.{rules}
 use Rattle.logic.specs.Test.{when◌then◌else◌}
 use Rattle.wire.specs.Wire.{other_form}
 use Rattle.wire.proofs.other_form.Goals as goal
 
 pub returns-then-is_outside : goal.returns-then-is_outside
 unfolding other_form when◌then◌else◌
-returns-then-is_outside c = rw (sym c.is_outside.ensures ∙ c.if-is_outside.true)
+returns-then-is_outside c = search rules
 
 pub returns : goal.returns
 unfolding other_form when◌then◌else◌
-returns c = rw (sym c.is_outside.ensures ∙ c.if-is_outside.false)
+returns c = search rules
