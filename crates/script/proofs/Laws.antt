@@ -1,8 +1,10 @@
 -- Laws of a record's fields: a little-endian number from its last byte on, and how large it can be.
 -- Assumes nothing.
-use Prim.Native.Nat.{ℕ, zero, suc, ◌+◌, ◌-◌, ◌*◌, ◌^◌, ◌≤◌, ◌<◌}
-use mathlib.Core.Path.{◌≡◌, refl, ◌∙◌}
-use mathlib.Core.List.{List, [], ◌∷◌, ◌++◌}
+use Prim.Native.Nat.{ℕ, suc, ◌+◌, ◌-◌, ◌*◌, ◌^◌, ◌≤◌, ◌<◌}
+use mathlib.Core.Path.{◌≡◌, refl, sym, ap, ◌∙◌}
+use Rattle.std.specs.Prelude.{Some, None}
+use Rattle.std.specs.Option.{unwrap_or}
+use mathlib.Core.List.{List, ◌++◌}
 use native.Mathlib.Omega.{arith}
 use borrow.Author.Tests.{lt-ltb, le-ltb}
 use lib.ListN.{length, take, drop, length-append, length-drop, length-take, get_or-append}
@@ -29,12 +31,6 @@ le_room k v b h l =
 pub le_fits : (k n : ℕ) → k < n → n ≤ 8 → 2 ^ (8 * (k + 1)) ≤ 2 ^ 64
 le_fits k n h l = let l8 : 8 * (k + 1) ≤ 64 = omega arith in pow_mono l8
 
--- there is nothing past the end
-pub past_end : (p : List ℕ) (place : ℕ) → length p ≤ place → u8 p place ≡ 0
-past_end [] place h = refl
-past_end (b ∷ p) zero h = absurd (omega arith)
-past_end (b ∷ p) (suc place) h = past_end p place (omega arith)
-
 -- all that stands from a place on
 pub from_on : (s : List ℕ) (i : ℕ) → take (length s - i) (drop i s) ≡ drop i s
 from_on s i = take_all (length s - i) (drop i s) (rw length-drop (omega arith))
@@ -47,12 +43,19 @@ rest_within kind n =
 
 -- ---- where a record ends
 
--- the first record is not whole while bytes of it are missing
-pub size_part : (bytes : List ℕ) → length bytes < header + u16 bytes 0 → record_size bytes ≡ 0
-unfolding record_size
-size_part bytes h = by_test (λ x. x ≡ 0) (λ e. refl) (λ e. if_true _ _ (lt-ltb _ _ h))
+pub none_is_no_size : (n : ℕ) → None ≡ Some n → ⊥
+none_is_no_size n e = let z : ◌≡◌ {A = ℕ} 0 1 = cc in absurd (omega arith)
 
-pub size_whole : (bytes : List ℕ) → header + u16 bytes 0 ≤ length bytes → record_size bytes ≡ header + u16 bytes 0
+some_same : {m n : ℕ} → Some m ≡ Some n → m ≡ n
+some_same e = ap (λ o. unwrap_or o 0) e
+
+-- the first record is not whole while bytes of it are missing
+pub size_part : (bytes : List ℕ) → length bytes < header + u16 bytes 0 → record_size bytes ≡ None
+unfolding record_size
+size_part bytes h = by_test (λ x. x ≡ None) (λ e. refl) (λ e. if_true _ _ (lt-ltb _ _ h))
+
+pub size_whole : (bytes : List ℕ) → header + u16 bytes 0 ≤ length bytes
+    → record_size bytes ≡ Some (header + u16 bytes 0)
 unfolding record_size
 size_whole bytes h = if_false _ _ (le-ltb (length bytes) header (omega arith)) ∙ if_false _ _ (le-ltb _ _ h)
 
@@ -62,7 +65,7 @@ unfolding le
 head_same bytes k h = rw (get_or-take k bytes 0 0 (omega arith), get_or-take k bytes 1 0 (omega arith))
 
 -- before its last byte no record is whole
-pub size_before : (bytes : List ℕ) (k : ℕ) → k < header + u16 bytes 0 → record_size (take k bytes) ≡ 0
+pub size_before : (bytes : List ℕ) (k : ℕ) → k < header + u16 bytes 0 → record_size (take k bytes) ≡ None
 size_before bytes k h =
     let l : length (take k bytes) ≤ k = rw length-take (omega arith) in
     case_lt (length (take k bytes)) header
@@ -71,21 +74,28 @@ size_before bytes k h =
 
 -- and at its last byte it is
 pub size_at : (bytes : List ℕ) → header + u16 bytes 0 ≤ length bytes
-    → record_size (take (header + u16 bytes 0) bytes) ≡ header + u16 bytes 0
+    → record_size (take (header + u16 bytes 0) bytes) ≡ Some (header + u16 bytes 0)
 size_at bytes h =
     let n = header + u16 bytes 0 in
     let e = head_same bytes n (omega arith) in
     size_whole (take n bytes) (rw (e, length-take) (omega arith)) ∙ rw e
 
--- in other words
-pub whole_before : (bytes : List ℕ) (k : ℕ) → k < record_size bytes → (record_size (take k bytes) ≡ 0)
-    × (record_size (take (record_size bytes) bytes) ≡ record_size bytes) × (record_size bytes ≤ length bytes)
-whole_before bytes k h =
+-- a size is that of the header and of the payload, which are there
+pub size_is : (bytes : List ℕ) (n : ℕ) → record_size bytes ≡ Some n → (n ≡ header + u16 bytes 0) × (n ≤ length bytes)
+size_is bytes n e =
     case_lt (length bytes) (header + u16 bytes 0)
-    (λ l. absurd (omega (arith, size_part bytes l, h)))
-    (λ l.
-    let e = size_whole bytes l in
-    (size_before bytes k (omega (arith, e, h)), rw e (size_at bytes l), omega (arith, e)))
+    (λ l. absurd (none_is_no_size n (sym (size_part bytes l) ∙ e)))
+    (λ l. let same = some_same (sym e ∙ size_whole bytes l) in (same, omega (arith, same)))
+
+-- in other words
+pub whole_before : (bytes : List ℕ) (n k : ℕ) → record_size bytes ≡ Some n → k < n
+    → (record_size (take k bytes) ≡ None) × (record_size (take n bytes) ≡ Some n) × (n ≤ length bytes)
+whole_before bytes n k e h =
+    let is = size_is bytes n e in (
+      size_before bytes k (omega (arith, is.0, h)),
+      rw is.0 (size_at bytes (omega (arith, is.0, is.1))),
+      is.1,
+    )
 
 -- ---- what a record waits for
 
@@ -99,11 +109,11 @@ module _ (bytes : List ℕ) where
   lacks_payload l = if_false _ _ (le-ltb _ _ l)
 
   -- where the record is not whole, for a byte at least
-  pub lacks_some : record_size bytes ≡ 0 → 0 < record_lacks bytes
+  pub lacks_some : record_size bytes ≡ None → 0 < record_lacks bytes
   lacks_some e =
       case_lt (length bytes) header (λ few. omega (arith, lacks_header few)) (λ enough.
       case_lt (length bytes) (header + u16 bytes 0) (λ part. omega (arith, lacks_payload enough))
-      (λ whole. absurd (omega (arith, size_whole bytes whole, e))))
+      (λ whole. absurd (none_is_no_size _ (sym e ∙ size_whole bytes whole))))
 
   -- the header stays as it is
   head_kept : (more : List ℕ) → header ≤ length bytes → u16 (bytes ++ more) 0 ≡ u16 bytes 0
@@ -112,7 +122,7 @@ module _ (bytes : List ℕ) where
       rw (get_or-append bytes more 0 0 (omega arith), get_or-append bytes more 0 1 (omega arith))
 
   -- with fewer than it waits for it is not whole
-  pub lacks_part : (more : List ℕ) → length more < record_lacks bytes → record_size (bytes ++ more) ≡ 0
+  pub lacks_part : (more : List ℕ) → length more < record_lacks bytes → record_size (bytes ++ more) ≡ None
   lacks_part more h =
       case_lt (length bytes) header
       (λ few. size_part (bytes ++ more) (rw length-append (omega (arith, lacks_header few, h))))
@@ -121,10 +131,10 @@ module _ (bytes : List ℕ) where
 
   -- and one that is not whole after that is shorter than the longest
   pub lacks_short : (more : List ℕ) → length more ≤ record_lacks bytes → length bytes + record_lacks bytes ≤ longest
-      → record_size (bytes ++ more) ≡ 0 → length bytes + length more < longest
+      → record_size (bytes ++ more) ≡ None → length bytes + length more < longest
   lacks_short more h room e =
       case_lt (length bytes) header (λ few. omega (arith, lacks_header few)) (λ enough.
       case_lt (length more) (record_lacks bytes) (λ less. omega arith) (λ all.
       let whole = size_whole (bytes ++ more)
       (rw (length-append, head_kept more enough) (omega (arith, lacks_payload enough, all))) in
-      absurd (omega (arith, whole, e))))
+      absurd (none_is_no_size _ (sym e ∙ whole))))

@@ -1,7 +1,7 @@
 -- Document 01, "The script runner `circle`": "records: u16 payload length, u16 kind, payload, little-endian. Payload
 -- fields are u64, but one byte for seats, the flag and what is u8 in the Rust", and the kinds 1 to 12 with their
 -- payloads. Assumes nothing.
-use Rattle.std.specs.Prelude.{ℕ, zero, suc, ◌+◌, ◌-◌, ◌*◌, min, Bool, true, false, not, ◌&&◌, List, eqb, ltb, leb, length, drop, get_or}
+use Rattle.std.specs.Prelude.{ℕ, zero, suc, ◌+◌, ◌-◌, ◌*◌, min, Bool, true, false, not, ◌&&◌, List, eqb, ltb, leb, length, drop, get_or, Option, Some, None}
 use Rattle.logic.specs.Test.{when◌then◌else◌}
 use Rattle.params.specs.declared.SessionParams.{SessionParams}
 use Rattle.wire.specs.declared.Body.{Body}
@@ -38,12 +38,12 @@ header = 4
 abbrev pub longest : ℕ
 longest = 65539
 
--- how many bytes the first record has, once all of them are there; else 0
-unfoldable pub record_size : List ℕ → ℕ
+-- how many bytes the first record has, once all of them are there
+unfoldable pub record_size : List ℕ → Option ℕ
 record_size bytes =
-    when ltb (length bytes) header then 0
-    else when ltb (length bytes) (header + u16 bytes 0) then 0
-    else header + u16 bytes 0
+    when ltb (length bytes) header then None
+    else when ltb (length bytes) (header + u16 bytes 0) then None
+    else Some (header + u16 bytes 0)
 
 -- how many bytes a record that has begun waits for: those of its header, and then those of its payload
 unfoldable pub record_lacks : List ℕ → ℕ
@@ -104,13 +104,17 @@ body_from kind p =
 unfoldable pub message_from : ℕ → List ℕ → Message
 message_from kind p = record { sender = u8 p 1; session = u64 p 2; body = body_from kind p }
 
+-- what a commit says of the world: "flag 0 means none given, any other given"
+unfoldable pub world_of : (flag digest : ℕ) → Option ℕ
+world_of flag digest = when eqb flag 0 then None else Some digest
+
 -- 2 submit; 3 to 7 a message, its source first; 8 advance; 9 commit: tick, flag, digest; 10 leave; 11 pump; 12 report
 unfoldable pub call_from : ℕ → List ℕ → Call
 call_from kind p =
     when eqb kind 2 then Submit
     else when leb 3 kind && leb kind 7 then Deliver (u8 p 0) (message_from kind p)
     else when eqb kind 8 then Advance
-    else when eqb kind 9 then Commit (u64 p 0) (u8 p 8) (u64 p 9)
+    else when eqb kind 9 then Commit (u64 p 0) (world_of (u8 p 8) (u64 p 9))
     else when eqb kind 10 then Leave
     else when eqb kind 11 then Pump
     else Report

@@ -1,11 +1,10 @@
 // The script that a session is driven by: where a record ends, and what it asks. Nothing here reads a session.
 #![tactic(auto)]
 
-ghost use Rattle.std.specs.Prelude.{◌+◌, ◌*◌, ◌^◌, ◌<◌, ◌≤◌, ◌≡◌, length, get_or};
+ghost use Rattle.std.specs.Prelude.{◌+◌, ◌*◌, ◌^◌, ◌<◌, ◌≤◌, ◌≡◌, None, length, get_or};
 ghost use Rattle.script.specs.Records.{le, longest, record_size, record_lacks, right_length};
 ghost use Rattle.script.specs.Records.{params_from, body_from, message_from, call_from, asked, rest_start, rest_of};
 
-use logic::{is_outside, least, long};
 use params::SessionParams;
 use wire::{Body, ByeBody, DigestBody, HelloBody, InputsBody, Message};
 
@@ -16,18 +15,18 @@ pub const HEADER: usize = 4;
 pub const LONGEST: usize = 65539;
 
 // What is asked of the session that stands.
-#[derive(Clone, Copy)]
+#[derive(Clone, Copy, Debug, PartialEq, Eq)]
 pub enum Call {
     Submit,
     Deliver { source: u8, message: Message },
     Advance,
-    Commit { tick: u64, flag: u8, digest: u64 },
+    Commit { tick: u64, digest: Option<u64> },
     Leave,
     Pump,
     Report,
 }
 
-#[derive(Clone, Copy)]
+#[derive(Clone, Copy, Debug, PartialEq, Eq)]
 pub enum Asked {
     Bad,
     Open(SessionParams),
@@ -38,10 +37,7 @@ pub enum Asked {
 fn byte_at(s: &[u8], at: usize) -> u8
     ensures { result ≡ get_or s.now at 0 }
 {
-    if at < s.len() {
-        return s[at];
-    }
-    0
+    s.get(at).copied().unwrap_or(0)
 }
 
 // A little-endian number of n bytes.
@@ -50,45 +46,40 @@ fn le(s: &[u8], at: usize, n: usize) -> u64
     ensures value { result ≡ le s.now at n }
     ensures fits_bytes { result < 2 ^ (8 * n) }
 {
-    let mut value: u64 = 0;
-    let mut i = n;
-    while i > 0 {
-        i -= 1;
-        value = long(byte_at(s, at + i)) + value * 256;
+    let mut value = 0;
+    for i in (0..n).rev() {
+        value = u64::from(byte_at(s, at + i)) + value * 256;
     }
     value
 }
 
-// How many bytes the first record has, once all of them are there; else 0.
-pub fn record_size(bytes: &[u8]) -> usize
+// How many bytes the first record has, once all of them are there.
+pub fn record_size(bytes: &[u8]) -> Option<usize>
     ensures value { result ≡ record_size bytes.now }
-    ensures short_if_lacking { result ≡ 0 → length bytes.now < longest }
+    ensures short_if_lacking { result ≡ None → length bytes.now < longest }
 {
     let have = bytes.len();
     if have < HEADER {
-        return 0;
+        return None;
     }
     let size = HEADER + le(bytes, 0, 2) as usize;
     if have < size {
-        return 0;
+        return None;
     }
-    size
+    Some(size)
 }
 
 // How many bytes a record that has begun waits for: those of its header, and then those of its payload.
 pub fn record_lacks(bytes: &[u8]) -> usize
     ensures value { result ≡ record_lacks bytes.now }
-    ensures within_longest { record_size bytes.now ≡ 0 → length bytes.now + result ≤ longest }
+    ensures within_longest { record_size bytes.now ≡ None → length bytes.now + result ≤ longest }
 {
     let have = bytes.len();
     if have < HEADER {
         return HEADER - have;
     }
     let size = HEADER + le(bytes, 0, 2) as usize;
-    if size < have {
-        return 0;
-    }
-    size - have
+    size.saturating_sub(have)
 }
 
 // A kind that there is, with a length that it can have.
@@ -99,7 +90,7 @@ fn right_length(kind: u64, length: usize) -> bool
         1 => length == 37,
         2 => true,
         3 => length == 46,
-        4 => 20 <= length && length <= 148,
+        4 => (20..=148).contains(&length),
         5 => length == 34,
         6 => length == 18,
         7 => length == 11,
@@ -177,8 +168,7 @@ fn call_from(kind: u64, p: &[u8]) -> Call
         8 => Call::Advance,
         9 => Call::Commit {
             tick: le(p, 0, 8),
-            flag: byte_at(p, 8),
-            digest: le(p, 9, 8),
+            digest: (byte_at(p, 8) != 0).then_some(le(p, 9, 8)),
         },
         10 => Call::Leave,
         11 => Call::Pump,
@@ -208,13 +198,11 @@ pub fn asked_by(bytes: &[u8]) -> Asked
 fn rest_start(kind: u64, n: usize) -> usize
     ensures { result ≡ rest_start kind n }
 {
-    if kind == 2 {
-        return least(HEADER, n);
+    match kind {
+        2 => HEADER.min(n),
+        4 => (HEADER + 20).min(n),
+        _ => n,
     }
-    if kind == 4 {
-        return least(24, n);
-    }
-    n
 }
 
 // What goes beside a call: the bytes of a submit, the run of an Inputs.

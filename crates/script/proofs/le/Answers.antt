@@ -1,27 +1,26 @@
 -- `script::le` meets its contract: the bytes from the i-th on are read. Assumes nothing.
 use mathlib.Core.Path.{◌≡◌, refl}
 use Prim.Native.Nat.{◌+◌, ◌-◌, ◌*◌, ◌^◌, ◌≤◌, ◌<◌}
-use native.Mathlib.Nat.{add-zero}
 use native.Mathlib.Omega.{arith}
 use Rattle.script.specs.Records.{le}
 use Rattle.script.proofs.Laws.{le_more, le_room, le_fits}
 use Rattle.script.proofs.le.Goals as goal
-use Rattle.script.proofs.le.Goals.{After-long}
+use Rattle.script.proofs.le.Goals.{After-from}
 
 pub loop-i-init : goal.loop-i-init
 unfolding le
 loop-i-init c =
     let e : c.args.n - c.args.n ≡ 0 = omega arith in
-    rw e (omega arith, refl, omega arith)
+    rw e (refl, omega arith)
 
 -- one byte more is no more than eight bytes hold
-room : (c : After-long) → let a = c.args in let at =
+room : (c : After-from) → let a = c.args in let at =
     c.loop-i in
-    (c.long.result + at.value * 256 < 2 ^ (8 * (a.n - at.i + 1))) × (2 ^ (8 * (a.n - at.i + 1)) ≤ 2 ^ 64)
+    (c.from.result + at.value * 256 < 2 ^ (8 * (a.n - at.i + 1))) × (2 ^ (8 * (a.n - at.i + 1)) ≤ 2 ^ 64)
 room c =
     let a = c.args in
     let at = c.loop-i in (
-      le_room (a.n - at.i) at.value c.long.result at.invariant.2 (omega arith),
+      le_room (a.n - at.i) at.value c.from.result at.invariant.1 (omega (arith, c.from.ensures, c.byte_at.type_inv)),
       le_fits (a.n - at.i) a.n (omega arith) (omega arith),
     )
 
@@ -36,14 +35,7 @@ loop-i-preserved c =
     let a = c.args in
     let at = c.loop-i in
     let e : a.n - (at.i - 1) ≡ a.n - at.i + 1 = omega arith in (
-      omega arith,
-      rw (c.long.ensures, c.byte_at.ensures, at.invariant.1)
-          (le_more _ a.at at.i a.n (omega arith) at.invariant.0),
+      rw (c.from.ensures, c.byte_at.ensures, at.invariant.0)
+          (le_more _ a.at at.i a.n (omega arith) (omega arith)),
       rw e (room c).0,
     )
-
-pub returns : goal.returns
-returns c =
-    let z : c.loop-i.i ≡ 0 = omega arith in
-    let e : c.args.n - 0 ≡ c.args.n = omega arith in
-    record { value = rw (z, add-zero, e) at c.loop-i.invariant.1; fits_bytes = rw (z, e) at c.loop-i.invariant.2 }

@@ -1,22 +1,25 @@
 -- `script::record_lacks` meets its contract. Assumes nothing.
+use mathlib.Core.Path.{sym, ◌∙◌}
 use native.Mathlib.Omega.{arith}
-use borrow.Author.Tests.{lt-ltb, le-ltb}
+use Prim.Native.Nat.{◌+◌}
+use lib.ListN.{length}
+use Rattle.std.proofs.Common.{rules}
+use Rattle.logic.proofs.Cases.{case_lt}
 use Rattle.logic.specs.Test.{when◌then◌else◌}
 use Rattle.script.specs.Records.{record_lacks}
-use Rattle.script.proofs.Laws.{size_whole}
+use Rattle.script.proofs.Laws.{size_whole, none_is_no_size}
 use Rattle.script.proofs.record_lacks.Goals as goal
 
-pub returns-then-have-lt-HEADER : goal.returns-then-have-lt-HEADER
+pub returns-then-have-lt-HEADER-clause-value : goal.returns-then-have-lt-HEADER-clause-value
 unfolding record_lacks when◌then◌else◌
-returns-then-have-lt-HEADER c = record { value = rw (lt-ltb _ _ c.if-have-lt-HEADER.true); within_longest = λ e. omega (arith, c.if-have-lt-HEADER.true) }
+returns-then-have-lt-HEADER-clause-value c = search rules
 
-pub returns-then-size-have : goal.returns-then-size-have
+pub returns-clause-value : goal.returns-clause-value
 unfolding record_lacks when◌then◌else◌
-returns-then-size-have c =
-    let whole =
-    size_whole c.args.bytes.now
-    (rw (← c.le.ensures.value) (omega (arith, c.if-size-have.true))) in record { value = rw (le-ltb _ _ c.if-have-lt-HEADER.false, ← c.le.ensures.value) (omega (arith, c.if-size-have.true)); within_longest = λ e. absurd (omega (arith, whole, e)) }
+returns-clause-value c = search rules
 
-pub returns : goal.returns
-unfolding record_lacks when◌then◌else◌
-returns c = record { value = rw (le-ltb _ _ c.if-have-lt-HEADER.false, ← c.le.ensures.value); within_longest = λ e. omega (arith, c.if-size-have.false, c.le.ensures.fits_bytes) }
+pub returns-clause-within_longest : goal.returns-clause-within_longest
+returns-clause-within_longest c =
+    λ e. case_lt (length c.args.bytes.now) (4 + c.le.result)
+    (λ part. omega (arith, c.saturating_sub.ensures, c.le.ensures.fits_bytes, part))
+    (λ whole. absurd (none_is_no_size _ (sym e ∙ size_whole c.args.bytes.now (omega (arith, c.le.ensures.value, whole)))))

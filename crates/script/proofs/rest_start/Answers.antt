@@ -1,17 +1,17 @@
 -- `script::rest_start` meets its contract. Assumes nothing.
-use borrow.Author.Tests.{eq-eqb, ne_eqb}
+use Rattle.std.proofs.Common.{rules}
 use Rattle.logic.specs.Test.{when◌then◌else◌}
 use Rattle.script.specs.Records.{rest_start}
 use Rattle.script.proofs.rest_start.Goals as goal
 
-pub returns-then-kind-eq2 : goal.returns-then-kind-eq2
+pub returns-in-2 : goal.returns-in-2
 unfolding rest_start when◌then◌else◌
-returns-then-kind-eq2 c = rw (eq-eqb _ _ c.if-kind-eq2.true) c.least.ensures
+returns-in-2 c = search rules
 
-pub returns-then-kind-eq4 : goal.returns-then-kind-eq4
+pub returns-in-4 : goal.returns-in-4
 unfolding rest_start when◌then◌else◌
-returns-then-kind-eq4 c = rw (ne_eqb _ _ c.if-kind-eq2.false, eq-eqb _ _ c.if-kind-eq4.true) c.least-then-kind-eq4.ensures
+returns-in-4 c = search rules
 
-pub returns : goal.returns
+pub returns-in_default : goal.returns-in_default
 unfolding rest_start when◌then◌else◌
-returns c = rw (ne_eqb _ _ c.if-kind-eq2.false, ne_eqb _ _ c.if-kind-eq4.false)
+returns-in_default c = search rules
