@@ -3,7 +3,8 @@ use mathlib.Core.Path.{◌≡◌, refl}
 use mathlib.Core.List.{[], ◌∷◌}
 use Rattle.logic.specs.Test.{when◌then◌else◌}
 use Rattle.text.specs.Ascii.{ascii}
-use Rattle.text.specs.Text.{page, put_within}
+use Rattle.text.specs.Text as list
+use Rattle.text.specs.Pages.{page, put_within}
 use Rattle.text.specs.Decimal.{digits, decimal}
 use Rattle.text.specs.Hex.{hex_digit, hex_digits, hex_bytes}
 
@@ -31,3 +32,12 @@ behind = refl
 dropped : put_within 2 (page (1 ∷ 2 ∷ 3 ∷ 4 ∷ 5 ∷ []) 1) (7 ∷ 8 ∷ []) ≡ page (1 ∷ 7 ∷ 3 ∷ 4 ∷ 5 ∷ []) 2
 unfolding put_within
 dropped = refl
+
+-- the same of the text alone
+behind_text : list.put_within 4 (1 ∷ []) (7 ∷ 8 ∷ []) ≡ 1 ∷ 7 ∷ 8 ∷ []
+unfolding list.put_within
+behind_text = refl
+
+dropped_text : list.put_within 2 (1 ∷ []) (7 ∷ 8 ∷ []) ≡ 1 ∷ 7 ∷ []
+unfolding list.put_within
+dropped_text = refl

@@ -2,13 +2,16 @@
 -- Assumes nothing.
 use Prim.Native.Nat.{ℕ, zero, suc, ◌+◌, ◌*◌, ◌<◌, ◌/◌, ◌%◌, ◌^◌}
 use mathlib.Core.Path.{◌≡◌, refl, sym, ap, ◌∙◌}
-use mathlib.Core.List.{List, [], ◌∷◌, ◌++◌, append_assoc}
-use native.Mathlib.Nat.{add-zero, zero-add, pow-suc, div-add-mod'}
+use mathlib.Core.List.{List, [], ◌∷◌, ◌++◌, append_assoc, append-nil}
+use native.Mathlib.Nat.{div-div-eq-div-mul, add-zero, zero-add, pow-suc, div-add-mod'}
 use native.Mathlib.Omega.{arith}
 use borrow.Author.Tests.{lt-ltb, le-ltb}
-use lib.ListN.{length, length-append}
+use lib.ListN.{length, take, get_or, length-append}
+use lib.Seq.{take-suc}
+use native.Mathlib.Numerals.{add-one}
 use Rattle.logic.proofs.Cases.{case_lt, if_true, if_false}
-use Rattle.text.specs.Hex.{hex_digit, hex_digits, hex_bytes, hex_value, read_hex}
+use Rattle.std.specs.Int.{w64, to_be_bytes}
+use Rattle.text.specs.Hex.{hex_digit, hex16, hex_digits, hex_bytes, hex_value, read_hex}
 
 pub hex_length : (k n : ℕ) → length (hex_digits k n) ≡ k
 unfolding hex_digits
@@ -24,6 +27,26 @@ pub hex_bytes_length : (xs : List ℕ) → length (hex_bytes xs) ≡ 2 * length 
 unfolding hex_bytes
 hex_bytes_length [] = refl
 hex_bytes_length (x ∷ xs) = rw (length-append, hex_length, hex_bytes_length xs) (omega arith)
+
+hex_bytes_one : (b : ℕ) → hex_bytes (b ∷ []) ≡ hex_digits 2 b
+unfolding hex_bytes
+hex_bytes_one b = append-nil (hex_digits 2 b)
+
+pub hex_bytes_more : (s : List ℕ) (i : ℕ) → i < length s
+    → hex_bytes (take (i + 1) s) ≡ hex_bytes (take i s) ++ hex_digits 2 (get_or s i 0)
+hex_bytes_more s i h = rw (add-one, take-suc s i 0 h, hex_bytes_append, hex_bytes_one)
+
+-- the digits of a byte of a number
+upper : (n : ℕ) → n % 256 / 16 % 16 ≡ n / 16 % 16
+upper n = omega arith
+
+lower : (n : ℕ) → n % 256 % 16 ≡ n % 16
+lower n = omega arith
+
+-- sixteen digits are those of the eight bytes, the highest first
+pub hex16_bytes : (n : ℕ) → hex_bytes (to_be_bytes w64 n) ≡ hex16 n
+unfolding hex_bytes hex_digits
+hex16_bytes n = simp (upper, lower, div-div-eq-div-mul) refl
 
 -- ---- reading them back
 

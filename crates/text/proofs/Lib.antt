@@ -1,5 +1,5 @@
-mod Loops
 pub mod Writing
+pub mod Pages
 pub mod Decimals
 pub mod Hexes
 pub mod Copying

@@ -1,4 +1,5 @@
 pub mod Ascii
 pub mod Text
+pub mod Pages
 pub mod Decimal
 pub mod Hex
