@@ -2,6 +2,7 @@
 -- definitions. P2 to P6 stand here as one message does them; the cases themselves are proved in the crate `table`.
 -- Assumes nothing.
 use Prim.Native.Nat.{ℕ}
+use Rattle.std.specs.Prelude.{Option, None, Some}
 use mathlib.Core.Path.{◌≡◌, refl}
 use mathlib.Core.List.{List, [], ◌∷◌}
 use mathlib.Core.Bool.{Bool, true, false}
@@ -12,7 +13,7 @@ use Rattle.window.specs.Window.{fresh_window, held_by, is_held, frame_of, writte
 use Rattle.window.specs.Absorb.{Absorbed, same_bytes, absorb_one, frame_at, absorb_first, absorb_inputs}
 use Rattle.window.specs.declared.Window.{Window}
 use Rattle.window.specs.declared.Note.{Note}
-use Rattle.window.specs.declared.Note.TheVariants.{Nothing, OutOfWindow, Contradiction}
+use Rattle.window.specs.declared.Note.TheVariants.{OutOfWindow, Contradiction}
 
 -- what a message's frames compute with, as one name to unfold
 absorbing : Unit {0}
@@ -22,11 +23,11 @@ absorbing = tt
 
 -- what a message did: its last note, whether a frame was written, and the repeats
 record Shown : Type 0 where
-  note : Note
+  note : Option Note
   wrote : Bool
   repeated : ℕ
 
-did : Note → Bool → ℕ → Shown
+did : Option Note → Bool → ℕ → Shown
 did note wrote repeated = record { note = note; wrote = wrote; repeated = repeated }
 
 shown : Absorbed → Shown
@@ -57,13 +58,13 @@ cases :
     -- a held frame for tick 0 is none for tick 64
     ∷ shown (send (after 0 (66 ∷ [])) 64 64 1 (67 ∷ []))
     ∷ []
-    ≡ did Nothing true 0
-    ∷ did (OutOfWindow 64 0) false 0
-    ∷ did Nothing false 1
-    ∷ did (Contradiction 1 0) true 0
-    ∷ did (Contradiction 1 0) false 0
-    ∷ did Nothing false 0
-    ∷ did Nothing true 0
+    ≡ did None true 0
+    ∷ did (Some (OutOfWindow 64 0)) false 0
+    ∷ did None false 1
+    ∷ did (Some (Contradiction 1 0)) true 0
+    ∷ did (Some (Contradiction 1 0)) false 0
+    ∷ did None false 0
+    ∷ did None true 0
     ∷ []
 unfolding absorbing shown did send after
 cases = refl
@@ -82,11 +83,11 @@ last_notes :
     -- tick 63 written, 64 out of the window
     ∷ shown (send fresh_window 0 63 2 (66 ∷ 67 ∷ []))
     ∷ []
-    ≡ did (Contradiction 1 63) false 0
-    ∷ did (OutOfWindow 64 0) false 1
-    ∷ did (OutOfWindow 65 0) false 0
-    ∷ did (OutOfWindow 64 0) true 0
-    ∷ did (OutOfWindow 64 0) true 0
+    ≡ did (Some (Contradiction 1 63)) false 0
+    ∷ did (Some (OutOfWindow 64 0)) false 1
+    ∷ did (Some (OutOfWindow 65 0)) false 0
+    ∷ did (Some (OutOfWindow 64 0)) true 0
+    ∷ did (Some (OutOfWindow 64 0)) true 0
     ∷ []
 unfolding absorbing shown did send after two
 last_notes = refl

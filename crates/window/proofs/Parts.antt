@@ -1,11 +1,19 @@
--- Reading a part of a list in which another list was pasted.
--- Assumes nothing.
-use Prim.Native.Nat.{ℕ, ◌+◌, ◌-◌, ◌≤◌}
+-- A part of a list as a slice's range has it, and reading a part of a list in which another list was pasted. Assumes
+-- nothing.
+use Prim.Native.Nat.{ℕ, ◌+◌, ◌-◌, ◌≤◌, min}
 use mathlib.Core.Path.{◌≡◌, ap, sym, ◌∙◌}
 use mathlib.Core.List.{List, ◌++◌, append_assoc}
 use native.Mathlib.Omega.{arith}
 use lib.ListN.{length, take, drop, take-append-drop, length-drop}
 use lib.Seq.{paste, take-append-le, drop-append-le, drop-drop, drop-paste, take_at, drop_at, length-take-le}
+use Rattle.logic.proofs.Fronts.{part_min}
+
+-- of n elements from `at` on, those that are there, by where they start and end
+pub part_to : (at n : ℕ) (xs : List ℕ) (from to : ℕ) → from ≡ min at (length xs) → to ≡ min (from + n) (length xs)
+    → take (to - from) (drop from xs) ≡ take n (drop at xs)
+part_to at n xs from to e f =
+    let long : to - from ≡ min n (length xs - from) = omega arith in
+    rw (long, e) (part_min at n xs)
 
 module _ (d : List ℕ) (at : ℕ) (s : List ℕ) (n : ℕ) (fits : at + n ≤ length d) (long : n ≤ length s) where
   -- the part that was pasted

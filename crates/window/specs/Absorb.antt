@@ -1,7 +1,7 @@
 -- Document 01, "The window": for each frame in order: below pending, skip silently; 64 or more above pending, note 27;
 -- held and equal, raise `frames_repeated`; held and different, note 28; else write. Only the last note counts. Assumes
 -- nothing.
-use Rattle.std.specs.Prelude.{ℕ, zero, suc, ◌*◌, ◌-◌, Bool, true, false, ◌&&◌, List, [], ◌∷◌, eqb, leb, ltb, length, take, drop}
+use Rattle.std.specs.Prelude.{ℕ, zero, suc, ◌*◌, ◌-◌, Bool, true, false, ◌&&◌, List, [], ◌∷◌, eqb, leb, ltb, length, take, drop, Option, None, Some}
 use Rattle.logic.specs.Test.{when◌then◌else◌}
 use Rattle.logic.specs.Saturating.{sum, raised}
 use Rattle.peer.specs.Cells.{window}
@@ -9,7 +9,7 @@ use Rattle.wire.specs.declared.InputsBody.{InputsBody}
 use Rattle.window.specs.Window.{is_held, frame_of, write_frame}
 use Rattle.window.specs.declared.Window.{Window}
 use Rattle.window.specs.declared.Note.{Note}
-use Rattle.window.specs.declared.Note.TheVariants.{Nothing, OutOfWindow, Contradiction}
+use Rattle.window.specs.declared.Note.TheVariants.{OutOfWindow, Contradiction}
 use Rattle.window.specs.declared.Taken.{Taken}
 
 -- whether two lists hold the same numbers
@@ -23,7 +23,7 @@ same_bytes (x ∷ xs) (y ∷ ys) = eqb x y && same_bytes xs ys
 pub record Absorbed : Type 0 where
   pub window : Window
   pub repeated : ℕ
-  pub note : Note
+  pub note : Option Note
   pub wrote : Bool
 
 abbrev pub absorbed : Window → Taken → Absorbed
@@ -32,7 +32,7 @@ absorbed w t = record { window = w; repeated = t.repeated; note = t.note; wrote 
 -- ---- what a frame can do
 
 abbrev pub noted : Absorbed → Note → Absorbed
-noted a note = record { window = a.window; repeated = a.repeated; note = note; wrote = a.wrote }
+noted a note = record { window = a.window; repeated = a.repeated; note = Some note; wrote = a.wrote }
 
 abbrev pub repeats : Absorbed → Absorbed
 repeats a = record { window = a.window; repeated = raised a.repeated; note = a.note; wrote = a.wrote }
@@ -57,7 +57,7 @@ unfoldable pub frame_at : List ℕ → ℕ → ℕ → List ℕ
 frame_at run n i = take n (drop (i * n) run)
 
 abbrev pub untouched : Window → ℕ → Absorbed
-untouched w repeated = record { window = w; repeated = repeated; note = Nothing; wrote = false }
+untouched w repeated = record { window = w; repeated = repeated; note = None; wrote = false }
 
 -- the first k frames, in order: frame i belongs to the first tick plus i. A message whose form is good has no tick
 -- above 2^64-1; the sum stops there so that every message has an answer

@@ -1,16 +1,12 @@
 -- `window::stand_for` meets its contract: each return is a case of the definition. Assumes nothing.
-use native.Mathlib.Nat.{add-sub_cancel_left}
 use Rattle.logic.specs.Test.{when◌then◌else◌}
-use Rattle.logic.proofs.Fronts.{part_min}
 use Rattle.window.specs.Window.{standing}
+use Rattle.window.proofs.Parts.{part_to}
 use Rattle.window.proofs.stand_for.Goals as goal
 
 pub returns-then-held : goal.returns-then-held
 unfolding standing when◌then◌else◌
-returns-then-held c =
-    let a = c.args in
-    rw (c.if-held.true, add-sub_cancel_left, c.least.ensures, c.least-from.ensures)
-    (part_min a.at _ a.ring.now)
+returns-then-held c = rw c.if-held.true (part_to _ _ _ _ _ c.min-from.ensures c.min-to.ensures)
 
 pub returns : goal.returns
 unfolding standing when◌then◌else◌
