@@ -120,7 +120,7 @@ module _ (w v : Window) (tick count width : ℕ) where
 
 -- ---- what a step hashes
 
-heads_more : (rows : List (List ℕ)) (width k : ℕ) → k < length rows
+pub heads_more : (rows : List (List ℕ)) (width k : ℕ) → k < length rows
     → heads (suc k) width rows ≡ heads k width rows ++ take width (get_or rows k [])
 unfolding heads
 heads_more [] width k l = absurd (omega arith)

@@ -1,5 +1,5 @@
--- In a record, a field that is an array of arrays stands at `map (map (λ v. v))` of the author's list, which is that
--- list, but not by computation. Assumes nothing.
+-- A list of lists, mapped within by what changes nothing, is that list. Nothing here needs it any more: docs/PORT.md
+-- names it, so it stands. Assumes nothing.
 use mathlib.Core.Path.{◌≡◌, ◌∙◌}
 use mathlib.Core.List.{List, map, map-id}
 

@@ -8,7 +8,6 @@ use Rattle.peer.specs.Seats.{seats}
 use Rattle.params.specs.Params.{max_width}
 use Rattle.window.specs.Window.{frame_of}
 use Rattle.window.specs.declared.Window.{Window}
-use Rattle.rows.specs.declared.Frames.{Frames}
 
 -- sixteen bytes: those of a frame, then zeros
 unfoldable pub padded : List ℕ → List ℕ
@@ -32,7 +31,3 @@ heads (suc count) width (row ∷ rows) = take width row ++ heads count width row
 -- the tick, then the frames by rising seat
 unfoldable pub step_digest : (digest tick count width : ℕ) → List (List ℕ) → ℕ
 step_digest digest tick count width rows = fnv digest (le_bytes 8 tick ++ heads count width rows)
-
--- the rows in their record
-abbrev pub laid : List (List ℕ) → Frames
-laid rows = record { rows = rows }
