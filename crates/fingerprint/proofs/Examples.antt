@@ -1,5 +1,6 @@
 -- Both sides of each rule, computed from the definitions: one table under a single proof for each call.
 -- Assumes nothing.
+use Rattle.std.specs.Prelude.{None, Some}
 use mathlib.Core.Path.{◌≡◌, refl}
 use mathlib.Core.Bool.{true, false}
 use mathlib.Core.List.{[], ◌∷◌}
@@ -8,9 +9,7 @@ use Rattle.logic.specs.Test.{when◌then◌else◌}
 use Rattle.peer.specs.Seats.{seats, has, every}
 use Rattle.fingerprint.specs.declared.Fingerprint.{Fingerprint}
 use Rattle.fingerprint.specs.declared.Fingerprints.{Fingerprints}
-use Rattle.fingerprint.specs.declared.Cell.TheVariants.{Empty, Holds}
 use Rattle.fingerprint.specs.declared.Arrival.TheVariants.{New, Repeated, Contradicted}
-use Rattle.fingerprint.specs.declared.LastAgreed.TheVariants.{Never, At}
 use Rattle.fingerprint.specs.Cells.{own_cell, remote_cell, no_prints, cell_at, stored_at, own}
 use Rattle.fingerprint.specs.Cells.{remote, with_own, with_remote, of_tick, own_for, remote_for}
 use Rattle.fingerprint.specs.Judging.{agrees, all_agree, parted_by, parted, arrival_by, arrival}
@@ -44,12 +43,12 @@ found :
     ∷ remote (theirs (theirs no_prints 1 21 3 4) 1 5 1 2) 1 21
     ∷ remote_for (theirs (theirs no_prints 1 21 3 4) 1 5 1 2) 1 21
     ∷ []
-    ≡ Empty ∷ Holds (print 5 1 2) ∷ Holds (print 5 1 2) ∷ Empty
-    ∷ Holds (print 5 1 2) ∷ Empty ∷ Empty
-    ∷ Holds (print 5 1 2) ∷ Holds (print 5 1 2) ∷ Empty ∷ Empty
-    ∷ Holds (print 5 1 2) ∷ Empty
-    ∷ Holds (print 15 1 2) ∷ Empty
-    ∷ Holds (print 5 1 2) ∷ Empty
+    ≡ None ∷ Some (print 5 1 2) ∷ Some (print 5 1 2) ∷ None
+    ∷ Some (print 5 1 2) ∷ None ∷ None
+    ∷ Some (print 5 1 2) ∷ Some (print 5 1 2) ∷ None ∷ None
+    ∷ Some (print 5 1 2) ∷ None
+    ∷ Some (print 15 1 2) ∷ None
+    ∷ Some (print 5 1 2) ∷ None
     ∷ []
 unfolding finding
 found = refl
@@ -113,11 +112,11 @@ last :
     ∷ last_agreed (stored_at two 2 (print 35 1 2)) 2 99
     ∷ last_agreed (theirs (stored_at two 2 (print 35 1 2)) 1 35 9 2) 2 99
     ∷ []
-    ≡ Never
-    ∷ Never ∷ At 0 ∷ At 0 ∷ At 3
-    ∷ At 3 ∷ At 0 ∷ Never
-    ∷ At 3 ∷ At 3 ∷ At 3
-    ∷ At 35 ∷ At 3
+    ≡ None
+    ∷ None ∷ Some 0 ∷ Some 0 ∷ Some 3
+    ∷ Some 3 ∷ Some 0 ∷ None
+    ∷ Some 3 ∷ Some 3 ∷ Some 3
+    ∷ Some 35 ∷ Some 3
     ∷ []
 unfolding finding two agrees all_agree has every offer higher agreed_in last_agreed
 last = refl

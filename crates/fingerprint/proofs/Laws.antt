@@ -1,6 +1,7 @@
 -- The cells of fingerprints: where each print is kept, what is found after one is stored, and what judging says of what
 -- is found. Assumes nothing.
 use Prim.Native.Nat.{ℕ, ◌<◌, ◌≤◌}
+use Rattle.std.specs.Prelude.{Option, None, Some}
 use mathlib.Core.Path.{◌≡◌, refl, sym}
 use mathlib.Core.Logic.{◌≢◌}
 use mathlib.Core.Bool.{true, false, not, true≢false}
@@ -14,8 +15,6 @@ use Rattle.peer.specs.Cells.{history, digest_slot_of}
 use Rattle.peer.proofs.Loops.{every_at, every_fails}
 use Rattle.fingerprint.specs.declared.Fingerprint.{Fingerprint}
 use Rattle.fingerprint.specs.declared.Fingerprints.{Fingerprints}
-use Rattle.fingerprint.specs.declared.Cell.{Cell}
-use Rattle.fingerprint.specs.declared.Cell.TheVariants.{Empty, Holds}
 use Rattle.fingerprint.specs.Cells.{cells, own_cell, remote_cell, no_prints, cell_at, stored_at, own}
 use Rattle.fingerprint.specs.Cells.{remote, with_own, with_remote, of_tick, own_for, remote_for}
 use Rattle.fingerprint.specs.Judging.{agrees, all_agree, parted_by, parted}
@@ -77,7 +76,7 @@ with_remote_sized p k f h = stored_sized p (remote_cell k f.tick) f h
 -- ---- a cell after a store
 
 -- there is nothing past the end
-pub cell_at_beyond : (p : Fingerprints) (c : ℕ) → Sized p → cells ≤ c → cell_at p c ≡ Empty
+pub cell_at_beyond : (p : Fingerprints) (c : ℕ) → Sized p → cells ≤ c → cell_at p c ≡ None
 unfolding cell_at
 cell_at_beyond p c h l = if_false _ _ (get_or-eq_default p.held false (omega arith))
 
@@ -92,7 +91,7 @@ stored_beyond p c f h l =
     )
 
 pub cell_at_stored_same : (p : Fingerprints) (c : ℕ) (f : Fingerprint) → Sized p → c < cells
-    → cell_at (stored_at p c f) c ≡ Holds f
+    → cell_at (stored_at p c f) c ≡ Some f
 unfolding cell_at stored_at
 cell_at_stored_same p c f h l =
     rw (
@@ -109,7 +108,7 @@ unfolding cell_at stored_at
 cell_at_stored_other p c f i n = simp (get_or-set_other, n)
 
 -- a seat above the last has no cell
-pub remote_beyond : (p : Fingerprints) (k t : ℕ) → Sized p → seats ≤ k → remote p k t ≡ Empty
+pub remote_beyond : (p : Fingerprints) (k t : ℕ) → Sized p → seats ≤ k → remote p k t ≡ None
 unfolding remote remote_cell
 remote_beyond p k t h l = cell_at_beyond p (remote_cell k t) h (omega arith)
 
@@ -118,7 +117,7 @@ unfolding with_remote remote_cell
 with_remote_beyond p k f h l = stored_beyond p (remote_cell k f.tick) f h (omega arith)
 
 -- no cell of a new session holds a print
-pub cell_at-new : (c : ℕ) → cell_at no_prints c ≡ Empty
+pub cell_at-new : (c : ℕ) → cell_at no_prints c ≡ None
 unfolding cell_at no_prints
 cell_at-new c =
     case_lt c cells (λ low. if_false _ _ (get_or-replicate cells c false false low))
@@ -127,70 +126,72 @@ cell_at-new c =
 -- ---- the print for a tick after a store
 
 -- what a cell gives for a tick is the cell's own, and has that tick
-pub of_tick_holds : (t : ℕ) (c : Cell) (q : Fingerprint) → of_tick t c ≡ Holds q → (c ≡ Holds q) × (q.tick ≡ t)
+pub of_tick_holds : (t : ℕ) (c : Option Fingerprint) (q : Fingerprint) → of_tick t c ≡ Some q
+    → (c ≡ Some q) × (q.tick ≡ t)
 unfolding of_tick
-of_tick_holds t Empty q e = absurd (true≢false (cc))
-of_tick_holds t (Holds f) q e = go e
+of_tick_holds t None q e = absurd (true≢false (cc))
+of_tick_holds t (Some f) q e = go e
   where
-    go : of_tick t (Holds f) ≡ Holds q → (Holds f ≡ Holds q) × (q.tick ≡ t)
+    go : of_tick t (Some f) ≡ Some q → (Some f ≡ Some q) × (q.tick ≡ t)
     go =
-        by_test (λ (o : Cell). o ≡ Holds q → (Holds f ≡ Holds q) × (q.tick ≡ t))
+        by_test (λ (o : Option Fingerprint). o ≡ Some q → (Some f ≡ Some q) × (q.tick ≡ t))
         (λ h e. (e, cc (eqb-true f.tick t h))) (λ h e. absurd (true≢false (cc)))
 
-pub of_tick_same : (f : Fingerprint) → of_tick f.tick (Holds f) ≡ Holds f
+pub of_tick_same : (f : Fingerprint) → of_tick f.tick (Some f) ≡ Some f
 unfolding of_tick
 of_tick_same f = if_true _ _ (eq-eqb f.tick f.tick refl)
 
 -- what was stored last is found
-pub own_for-fresh : (p : Fingerprints) (f : Fingerprint) → Sized p → own_for (with_own p f) f.tick ≡ Holds f
+pub own_for-fresh : (p : Fingerprints) (f : Fingerprint) → Sized p → own_for (with_own p f) f.tick ≡ Some f
 unfolding own_for own with_own
 own_for-fresh p f h =
     rw (cell_at_stored_same p (own_cell f.tick) f h (omega (arith, own_cell_lt f.tick))) (of_tick_same f)
 
 pub remote_for-fresh : (p : Fingerprints) (k : ℕ) (f : Fingerprint) → Sized p → k < seats
-    → remote_for (with_remote p k f) k f.tick ≡ Holds f
+    → remote_for (with_remote p k f) k f.tick ≡ Some f
 unfolding remote_for remote with_remote
 remote_for-fresh p k f h l =
     rw (cell_at_stored_same p (remote_cell k f.tick) f h (remote_cell_lt k f.tick l)) (of_tick_same f)
 
 -- in a new session none is
-pub own_for-new : (t : ℕ) → own_for no_prints t ≡ Empty
+pub own_for-new : (t : ℕ) → own_for no_prints t ≡ None
 unfolding own_for own of_tick
 own_for-new t = rw (cell_at-new (own_cell t))
 
-pub remote_for-new : (k t : ℕ) → remote_for no_prints k t ≡ Empty
+pub remote_for-new : (k t : ℕ) → remote_for no_prints k t ≡ None
 unfolding remote_for remote of_tick
 remote_for-new k t = rw (cell_at-new (remote_cell k t))
 
 -- a print q that is found once f is stored: f itself, where `Same` says so, or one that was found before
-pub data Stored (Same : Type 0) (f q : Fingerprint) (before : Cell) : Type 0 where
+pub data Stored (Same : Type 0) (f q : Fingerprint) (before : Option Fingerprint) : Type 0 where
   fresh : Same → q ≡ f → Stored Same f q before
-  older : before ≡ Holds q → Stored Same f q before
+  older : before ≡ Some q → Stored Same f q before
 
-stored_map : {A B : Type 0} {f q : Fingerprint} {before : Cell} → (A → B) → Stored A f q before → Stored B f q before
+stored_map : {A B : Type 0} {f q : Fingerprint} {before : Option Fingerprint} → (A → B) → Stored A f q before
+    → Stored B f q before
 stored_map g (fresh s e) = fresh (g s) e
 stored_map g (older e) = older e
 
 stored_at_lem : (p : Fingerprints) (c : ℕ) (f : Fingerprint) (i t : ℕ) (q : Fingerprint) → Sized p
-    → of_tick t (cell_at (stored_at p c f) i) ≡ Holds q → Stored ((i ≡ c) × (t ≡ f.tick)) f q (of_tick t (cell_at p i))
+    → of_tick t (cell_at (stored_at p c f) i) ≡ Some q → Stored ((i ≡ c) × (t ≡ f.tick)) f q (of_tick t (cell_at p i))
 stored_at_lem p c f i t q h e =
     case_lt c cells
     (λ low.
     case_eq i c
     (λ s.
-    let g : cell_at (stored_at p c f) i ≡ Holds f = rw s (cell_at_stored_same p c f h low) in
+    let g : cell_at (stored_at p c f) i ≡ Some f = rw s (cell_at_stored_same p c f h low) in
     let o = of_tick_holds t (cell_at (stored_at p c f) i) q e in
     fresh (s, cc) (cc))
     (λ s. older (rw (cell_at_stored_other p c f i s) at e)))
     (λ past. older (rw (stored_beyond p c f h past) at e))
 
 pub own_for_stored : (p : Fingerprints) (f : Fingerprint) (t : ℕ) (q : Fingerprint) → Sized p
-    → own_for (with_own p f) t ≡ Holds q → Stored (t ≡ f.tick) f q (own_for p t)
+    → own_for (with_own p f) t ≡ Some q → Stored (t ≡ f.tick) f q (own_for p t)
 unfolding own_for own with_own
 own_for_stored p f t q h e = stored_map (λ s. s.1) (stored_at_lem p (own_cell f.tick) f (own_cell t) t q h e)
 
 pub remote_for_stored : (p : Fingerprints) (k : ℕ) (f : Fingerprint) (j t : ℕ) (q : Fingerprint) → Sized p
-    → remote_for (with_remote p k f) j t ≡ Holds q → Stored ((j ≡ k) × (t ≡ f.tick)) f q (remote_for p j t)
+    → remote_for (with_remote p k f) j t ≡ Some q → Stored ((j ≡ k) × (t ≡ f.tick)) f q (remote_for p j t)
 unfolding remote_for remote with_remote
 remote_for_stored p k f j t q h e =
     stored_map (λ s. ((remote-cells_meet j t k f.tick s.0).0, s.1))
@@ -209,17 +210,17 @@ own_for-remote p k f t =
 
 -- ---- judging
 
-denied : (state : ℕ) (c : Cell) → agrees state c ≡ false
-    → record { print : Fingerprint; is : c ≡ Holds print; apart : print.state ≢ state }
+denied : (state : ℕ) (c : Option Fingerprint) → agrees state c ≡ false
+    → record { print : Fingerprint; is : c ≡ Some print; apart : print.state ≢ state }
 unfolding agrees
-denied state Empty e = absurd (true≢false e)
-denied state (Holds f) e = record { print = f; is = refl; apart = eqb-false f.state state e }
+denied state None e = absurd (true≢false e)
+denied state (Some f) e = record { print = f; is = refl; apart = eqb-false f.state state e }
 
 module _ (p : Fingerprints) (remotes tick : ℕ) where
   -- where no state parts, each remote's print for the tick has one's own state
-  pub parted_false : parted p remotes tick ≡ false → (mine : Fingerprint) → own_for p tick ≡ Holds mine → (k : ℕ)
+  pub parted_false : parted p remotes tick ≡ false → (mine : Fingerprint) → own_for p tick ≡ Some mine → (k : ℕ)
       → k < seats → has remotes k ≡ true
-      → (theirs : Fingerprint) → remote_for p k tick ≡ Holds theirs → theirs.state ≡ mine.state
+      → (theirs : Fingerprint) → remote_for p k tick ≡ Some theirs → theirs.state ≡ mine.state
   unfolding parted parted_by all_agree agrees
   parted_false e mine m k l h theirs t =
       eqb-true theirs.state mine.state (rw (h, t) at (every_at seats _ (not-false _ (rw m at e)) k l))
@@ -227,18 +228,18 @@ module _ (p : Fingerprints) (remotes tick : ℕ) where
   -- where they part, one's own print for the tick and a remote's have other states
   pub record Parted : Type 0 where
     pub mine : Fingerprint
-    pub own : own_for p tick ≡ Holds mine
+    pub own : own_for p tick ≡ Some mine
     pub seat : ℕ
     pub low : seat < seats
     pub remote : has remotes seat ≡ true
     pub theirs : Fingerprint
-    pub other : remote_for p seat tick ≡ Holds theirs
+    pub other : remote_for p seat tick ≡ Some theirs
     pub apart : theirs.state ≢ mine.state
 
-  parted_by_lem : (c : Cell) → own_for p tick ≡ c → parted_by p remotes tick c ≡ true → Parted
+  parted_by_lem : (c : Option Fingerprint) → own_for p tick ≡ c → parted_by p remotes tick c ≡ true → Parted
   unfolding parted_by all_agree
-  parted_by_lem Empty m e = absurd (true≢false (cc))
-  parted_by_lem (Holds f) m e =
+  parted_by_lem None m e = absurd (true≢false (cc))
+  parted_by_lem (Some f) m e =
       let r = every_fails seats _ (not-true _ e) in
       let b = or_neither (not (has remotes r.seat)) _ r.is in
       let d = denied f.state (remote_for p r.seat tick) b.1 in

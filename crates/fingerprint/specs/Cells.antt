@@ -2,14 +2,12 @@
 -- tick is there, older or newer"; "arrays of `Option<Fingerprint>` become flat numbers with a presence mark". One's own
 -- sixteen cells are the first, then sixteen for each seat. The lists end there, so a seat above the last has no cell:
 -- nothing is found past the end, and nothing is stored there. Assumes nothing.
-use Rattle.std.specs.Prelude.{ℕ, ◌+◌, ◌*◌, Bool, true, false, List, eqb, get_or, set, replicate}
+use Rattle.std.specs.Prelude.{ℕ, ◌+◌, ◌*◌, Bool, true, false, List, Option, None, Some, eqb, get_or, set, replicate}
 use Rattle.logic.specs.Test.{when◌then◌else◌}
 use Rattle.peer.specs.Seats.{seats}
 use Rattle.peer.specs.Cells.{history, digest_slot_of}
 use Rattle.fingerprint.specs.declared.Fingerprint.{Fingerprint}
 use Rattle.fingerprint.specs.declared.Fingerprints.{Fingerprints}
-use Rattle.fingerprint.specs.declared.Cell.{Cell}
-use Rattle.fingerprint.specs.declared.Cell.TheVariants.{Empty, Holds}
 
 -- ---- which cell
 
@@ -39,11 +37,11 @@ no_prints = record {
   inputs = replicate cells 0;
 }
 
-unfoldable pub cell_at : Fingerprints → ℕ → Cell
+unfoldable pub cell_at : Fingerprints → ℕ → Option Fingerprint
 cell_at p c =
     when get_or p.held c false
-    then Holds (record { tick = get_or p.ticks c 0; state = get_or p.states c 0; input = get_or p.inputs c 0 })
-    else Empty
+    then Some (record { tick = get_or p.ticks c 0; state = get_or p.states c 0; input = get_or p.inputs c 0 })
+    else None
 
 unfoldable pub stored_at : Fingerprints → ℕ → Fingerprint → Fingerprints
 stored_at p c f = record {
@@ -56,10 +54,10 @@ stored_at p c f = record {
 -- ---- by tick, and by seat
 
 -- the cell as it stands, whatever tick it holds
-unfoldable pub own : Fingerprints → ℕ → Cell
+unfoldable pub own : Fingerprints → ℕ → Option Fingerprint
 own p tick = cell_at p (own_cell tick)
 
-unfoldable pub remote : Fingerprints → (seat tick : ℕ) → Cell
+unfoldable pub remote : Fingerprints → (seat tick : ℕ) → Option Fingerprint
 remote p seat tick = cell_at p (remote_cell seat tick)
 
 unfoldable pub with_own : Fingerprints → Fingerprint → Fingerprints
@@ -69,12 +67,12 @@ unfoldable pub with_remote : Fingerprints → ℕ → Fingerprint → Fingerprin
 with_remote p seat f = stored_at p (remote_cell seat f.tick) f
 
 -- a cell's print, where it is for that very tick
-unfoldable pub of_tick : ℕ → Cell → Cell
-of_tick tick Empty = Empty
-of_tick tick (Holds f) = when eqb f.tick tick then Holds f else Empty
+unfoldable pub of_tick : ℕ → Option Fingerprint → Option Fingerprint
+of_tick tick None = None
+of_tick tick (Some f) = when eqb f.tick tick then Some f else None
 
-unfoldable pub own_for : Fingerprints → ℕ → Cell
+unfoldable pub own_for : Fingerprints → ℕ → Option Fingerprint
 own_for p tick = of_tick tick (own p tick)
 
-unfoldable pub remote_for : Fingerprints → (seat tick : ℕ) → Cell
+unfoldable pub remote_for : Fingerprints → (seat tick : ℕ) → Option Fingerprint
 remote_for p seat tick = of_tick tick (remote p seat tick)
