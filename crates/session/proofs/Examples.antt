@@ -6,10 +6,10 @@ use mathlib.Core.Path.{◌≡◌, refl}
 use mathlib.Core.Bool.{Bool, true, false}
 use mathlib.Core.List.{List, [], ◌∷◌}
 use lib.ListN.{replicate}
+use Rattle.std.specs.Prelude.{None, Some}
 use Rattle.peer.specs.Seats.{seats}
 use Rattle.params.specs.declared.SessionParams.{SessionParams}
 use Rattle.window.specs.Window.{write_frame}
-use Rattle.session.specs.declared.WorldDigest.TheVariants.{Absent, Present}
 use Rattle.session.specs.declared.Session.{Session}
 use Rattle.session.specs.declared.Advance.{Advance}
 use Rattle.session.specs.declared.Advance.TheVariants as Advance'
@@ -40,10 +40,10 @@ first : Advanced
 first = advance (both greeted 0 0x41 0x42)
 
 second : Advanced
-second = advance (both (commit first.session 0 (Present 5)).session 1 0x43 0x44)
+second = advance (both (commit first.session 0 (Some 5)).session 1 0x43 0x44)
 
 third : Advanced
-third = advance (both (commit second.session 1 Absent).session 2 0x45 0x46)
+third = advance (both (commit second.session 1 None).session 2 0x45 0x46)
 
 -- an answer, the rows beside it and the input digest that is left
 record Shown : Type 0 where
@@ -52,7 +52,7 @@ record Shown : Type 0 where
   digest : ℕ
 
 shown : Advanced → Shown
-shown a = record { answer = a.answer; rows = a.frames.rows; digest = a.session.head.play.digest }
+shown a = record { answer = a.answer; rows = a.frames; digest = a.session.head.play.digest }
 
 -- a step of the tick with the two seats' bytes
 stepped : ℕ → Bool → (mine theirs digest : ℕ) → Shown

@@ -5,31 +5,26 @@ use mathlib.Core.Path.{◌≡◌, refl, ap, ◌∙◌}
 use mathlib.Core.Logic.{◌≢◌}
 use mathlib.Core.List.{List}
 use mathlib.Core.Bool.{true, false, false≢true}
+use Rattle.std.specs.Prelude.{Err, None, Ok, Option, Some}
 use Rattle.logic.proofs.Cases.{by_test, if_true, if_false}
 use Rattle.params.specs.Params.{bad_state}
 use Rattle.stats.specs.Stats.{stalled_of}
 use Rattle.session.specs.declared.Outcome.{Outcome}
 use Rattle.session.specs.declared.Outcome.TheVariants.{Desynced}
-use Rattle.session.specs.declared.Standing.{Standing}
-use Rattle.session.specs.declared.Standing.TheVariants.{Over}
-use Rattle.session.specs.declared.WorldDigest.{WorldDigest}
-use Rattle.session.specs.declared.WorldDigest.TheVariants.{Absent, Present}
 use Rattle.session.specs.declared.Head.{Head}
 use Rattle.session.specs.declared.Session.{Session}
-use Rattle.session.specs.declared.Submitted.{Submitted}
-use Rattle.session.specs.declared.Committed.{Committed}
 use Rattle.session.specs.declared.Advanced.{Advanced}
-use Rattle.session.specs.declared.Leave.TheVariants as Leave'
-use Rattle.session.specs.Numbers.{submit_no, commit_no}
-use Rattle.session.specs.Session.{over, ended, started}
-use Rattle.session.specs.Host.{pressed, submit, leaving, leave_by, leave_head, leave}
+use Rattle.session.specs.declared.Answered.{Answered}
+use Rattle.session.specs.Numbers.{Submit, Commit, submit_no, commit_no}
+use Rattle.session.specs.Session.{head_with, over, ended, started}
+use Rattle.session.specs.Host.{pressed, submit, leave_by, leave_head, leave}
 use Rattle.session.specs.Step.{stepped, take_step, stall, advance, played, judge, keep_digest, commit}
 use Rattle.session.proofs.Cases.{submit_cases, commit_cases, is_idle, advance_cases}
 
 -- ---- what stays of a head: an outcome that it has, and the counters
 
 pub record Stays (h k : Head) : Type 0 where
-  pub outcome : (o : Outcome) → h.outcome ≡ Over o → k.outcome ≡ Over o
+  pub outcome : (o : Outcome) → h.outcome ≡ Some o → k.outcome ≡ Some o
   pub stats : k.stats ≡ h.stats
 
 same : (h : Head) → Stays h h
@@ -39,7 +34,7 @@ same h = record { outcome = λ o e. e; stats = refl }
 after : {h k l : Head} → Stays h k → Stays k l → Stays h l
 after f g = record { outcome = λ o e. g.outcome o (f.outcome o e); stats = g.stats ∙ f.stats }
 
-over_stays : (was : Standing) (new o : Outcome) → was ≡ Over o → over was new ≡ Over o
+over_stays : (was : Option Outcome) (new o : Outcome) → was ≡ Some o → over was new ≡ Some o
 over_stays was new o e = rw e
 
 pub ended_stays : (h : Head) (o : Outcome) → Stays h (ended h o)
@@ -52,7 +47,7 @@ started_stays h = by_test (Stays h) (λ _. record { outcome = λ o e. e; stats =
 
 -- ---- submit
 
-pub record OfSubmit (s : Session) (r : Submitted) : Type 0 where
+pub record OfSubmit (s : Session) (r : Answered Submit) : Type 0 where
   -- 20, 41, 42 and an ended submit change nothing
   pub refused : submit_no r.answer ≢ 0 → r.session ≡ s
   pub stays : Stays s.head r.session.head
@@ -71,7 +66,7 @@ of_submit s input =
 
 -- ---- commit
 
-pub record OfCommit (s : Session) (r : Committed) : Type 0 where
+pub record OfCommit (s : Session) (r : Answered Commit) : Type 0 where
   -- 20, 51 and 52 change nothing
   pub refused : commit_no r.answer ≢ 0 → r.session ≡ s
   pub stays : Stays s.head r.session.head
@@ -82,31 +77,31 @@ judge_stays s tick =
     by_test (λ (t : Session). Stays s.head t.head)
     (λ _. ended_stays s.head (Desynced tick)) (λ _. same s.head)
 
-keep_digest_stays : (s : Session) (tick : ℕ) (given : WorldDigest) → Stays s.head (keep_digest s tick given).head
+keep_digest_stays : (s : Session) (tick : ℕ) (given : Option ℕ) → Stays s.head (keep_digest s tick given).head
 unfolding keep_digest
-keep_digest_stays s tick Absent = same s.head
-keep_digest_stays s tick (Present state) = after (record { outcome = λ o e. e; stats = refl }) (judge_stays _ tick)
+keep_digest_stays s tick None = same s.head
+keep_digest_stays s tick (Some state) = after (record { outcome = λ o e. e; stats = refl }) (judge_stays _ tick)
 
-pub of_commit : (s : Session) (tick : ℕ) (given : WorldDigest) → OfCommit s (commit s tick given)
+pub of_commit : (s : Session) (tick : ℕ) (given : Option ℕ) → OfCommit s (commit s tick given)
 unfolding played
 of_commit s tick given =
     commit_cases (OfCommit s) s tick given (λ a n. record { refused = λ _. refl; stays = same s.head })
-    (λ due _ _. record {
+    (λ out _ _ _. record {
       refused = λ n. absurd (n refl);
       stays = after (record { outcome = λ o e. e; stats = refl }) (keep_digest_stays _ tick given);
     })
 
 -- ---- leave: after any outcome it gives the standing one and changes nothing, and so does 20
 
-pub leave_again : (s : Session) (o : Outcome) → bad_state s.head.params ≡ false → s.head.outcome ≡ Over o
-    → leave s ≡ record { session = s; answer = Leave'.Ended o }
+pub leave_again : (s : Session) (o : Outcome) → bad_state s.head.params ≡ false → s.head.outcome ≡ Some o
+    → leave s ≡ record { session = s; answer = Ok o }
 unfolding leave leave_head leave_by
 leave_again s o good e =
-    let given : leave_head s.head ≡ leaving s.head (Leave'.Ended o) =
+    let given : leave_head s.head ≡ head_with s.head (Ok o) =
     if_false _ _ good ∙ ap (leave_by s.head) e in rw given
 
 pub leave-refused : (s : Session) → bad_state s.head.params ≡ true
-    → leave s ≡ record { session = s; answer = Leave'.BadState }
+    → leave s ≡ record { session = s; answer = Err (record {}) }
 unfolding leave leave_head
 leave-refused s bad = rw (if_true _ _ bad)
 

@@ -1,31 +1,50 @@
--- Document 01, "Numbers given back": the number of each answer.
+-- Document 01, "Numbers given back": what each call answers, and the number of each answer.
 -- Assumes nothing.
-use Rattle.std.specs.Prelude.{ℕ}
-use Rattle.session.specs.declared.Submit.{Submit}
-use Rattle.session.specs.declared.Submit.TheVariants as Submit'
+use Rattle.std.specs.Prelude.{ℕ, Result}
+use Rattle.logic.specs.Numbered.{result_no}
+use Rattle.params.specs.declared.BadState.{BadState}
+use Rattle.session.specs.declared.Outcome.{Outcome}
+use Rattle.session.specs.declared.SubmitError.{SubmitError}
+use Rattle.session.specs.declared.SubmitError.TheVariants as Submit'
 use Rattle.session.specs.declared.Advance.{Advance}
 use Rattle.session.specs.declared.Advance.TheVariants as Advance'
-use Rattle.session.specs.declared.Commit.{Commit}
-use Rattle.session.specs.declared.Commit.TheVariants as Commit'
-use Rattle.session.specs.declared.Leave.{Leave}
-use Rattle.session.specs.declared.Leave.TheVariants as Leave'
+use Rattle.session.specs.declared.CommitError.{CommitError}
+use Rattle.session.specs.declared.CommitError.TheVariants as Commit'
+
+-- the tick that the press is for
+abbrev pub Submit : Type 0
+Submit = Result ℕ SubmitError
+
+abbrev pub Commit : Type 0
+Commit = Result (Unit {0}) CommitError
+
+-- how the session ended
+abbrev pub Leave : Type 0
+Leave = Result Outcome BadState
+
+-- ended, with the outcome
+abbrev pub outcome_no : Outcome → ℕ
+outcome_no o = 1
+
+abbrev pub submit_error_no : SubmitError → ℕ
+submit_error_no (Submit'.Ended o) = 1
+submit_error_no Submit'.BadState = 20
+submit_error_no (Submit'.WrongWidth saw agreed) = 41
+submit_error_no (Submit'.WindowFull tick pending) = 42
 
 abbrev pub submit_no : Submit → ℕ
-submit_no (Submit'.Accepted tick) = 0
-submit_no (Submit'.Ended o) = 1
-submit_no Submit'.BadState = 20
-submit_no (Submit'.WrongWidth saw agreed) = 41
-submit_no (Submit'.WindowFull tick pending) = 42
+submit_no = result_no (λ _. 0) submit_error_no
 
 abbrev pub leave_no : Leave → ℕ
-leave_no (Leave'.Ended o) = 1
-leave_no Leave'.BadState = 20
+leave_no = result_no outcome_no (λ _. 20)
+
+abbrev pub commit_error_no : CommitError → ℕ
+commit_error_no Commit'.BadState = 20
+commit_error_no (Commit'.OutOfOrder saw expected) = 51
+commit_error_no (Commit'.DigestMismatch tick owed) = 52
 
 abbrev pub commit_no : Commit → ℕ
-commit_no Commit'.Done = 0
-commit_no Commit'.BadState = 20
-commit_no (Commit'.OutOfOrder saw expected) = 51
-commit_no (Commit'.DigestMismatch tick owed) = 52
+commit_no = result_no (λ _. 0) commit_error_no
 
 -- to wait or to stall is no refusal
 abbrev pub advance_no : Advance → ℕ

@@ -1,7 +1,7 @@
 -- A session is its head, its window and its prints: small fields, presses, fingerprints. Here are the head as its parts
 -- change, and what is said of a session everywhere. Document 01: a session with an outcome is over, and the first
 -- outcome stays; it plays once it has started and is not over. Assumes nothing.
-use Rattle.std.specs.Prelude.{ℕ, ◌-◌, Bool, true, false, not, ◌&&◌, ltb}
+use Rattle.std.specs.Prelude.{ℕ, ◌-◌, Bool, true, false, not, ◌&&◌, ltb, Option, None, Some}
 use Rattle.logic.specs.Test.{when◌then◌else◌}
 use Rattle.logic.specs.Saturating.{most}
 use Rattle.hash.specs.Fnv.{start}
@@ -12,20 +12,17 @@ use Rattle.window.specs.Window.{fresh_window}
 use Rattle.window.specs.declared.Window.{Window}
 use Rattle.fingerprint.specs.Cells.{no_prints}
 use Rattle.fingerprint.specs.declared.Fingerprints.{Fingerprints}
-use Rattle.fingerprint.specs.declared.Cell.{Cell}
-use Rattle.fingerprint.specs.declared.Cell.TheVariants.{Empty}
+use Rattle.fingerprint.specs.declared.Fingerprint.{Fingerprint}
 use Rattle.stats.specs.Stats.{no_stats}
 use Rattle.stats.specs.declared.SessionStats.{SessionStats}
 use Rattle.session.specs.declared.Outcome.{Outcome}
-use Rattle.session.specs.declared.Standing.{Standing}
-use Rattle.session.specs.declared.Standing.TheVariants.{Open, Over}
-use Rattle.session.specs.declared.Outstanding.TheVariants.{Free}
 use Rattle.session.specs.declared.Emit.TheVariants.{Hello}
 use Rattle.session.specs.declared.Play.{Play}
 use Rattle.session.specs.declared.Marks.{Marks}
 use Rattle.session.specs.declared.Pass.{Pass}
 use Rattle.session.specs.declared.Head.{Head}
 use Rattle.session.specs.declared.Session.{Session}
+use Rattle.session.specs.declared.Answered.{Answered}
 
 -- ---- a session of its parts
 
@@ -35,17 +32,29 @@ session_of h w p = record { head = h; window = w; prints = p }
 abbrev pub with_head : Session → Head → Session
 with_head s h = session_of h s.window s.prints
 
+-- ---- with the answer of a call beside it: of a call that goes by the head alone, and of any
+
+pub record HeadAnswered (A : Type 0) : Type 0 where
+  pub head : Head
+  pub answer : A
+
+abbrev pub head_with : {A : Type 0} → Head → A → HeadAnswered A
+head_with h answer = record { head = h; answer = answer }
+
+abbrev pub session_with : {A : Type 0} → Session → A → Answered A
+session_with s answer = record { session = s; answer = answer }
+
 -- ---- at the start
 
 -- no Hello in but its own, nothing committed, and the pump about to say Hello
 unfoldable pub fresh_head : SessionParams → Head
 fresh_head p = record {
   params = p;
-  play = record { pending = 0; next_local = 0; digest = start; step = Free; stalled = most };
+  play = record { pending = 0; next_local = 0; digest = start; step = None; stalled = most };
   marks = record { hellos = adding seats 0 p.local; playing = 0; started = false };
   pass = record { kind = Hello; place = 0 };
-  owed = Empty;
-  outcome = Open;
+  owed = None;
+  outcome = None;
   stats = no_stats;
 }
 
@@ -88,7 +97,7 @@ with_pass h x = record {
   stats = h.stats;
 }
 
-abbrev pub with_owed : Head → Cell → Head
+abbrev pub with_owed : Head → Option Fingerprint → Head
 with_owed h x = record {
   params = h.params;
   play = h.play;
@@ -99,7 +108,7 @@ with_owed h x = record {
   stats = h.stats;
 }
 
-abbrev pub with_outcome : Head → Standing → Head
+abbrev pub with_outcome : Head → Option Outcome → Head
 with_outcome h x = record {
   params = h.params;
   play = h.play;
@@ -123,9 +132,9 @@ with_stats h x = record {
 
 -- ---- what is asked of a head
 
-abbrev pub is_over : Standing → Bool
-is_over Open = false
-is_over (Over o) = true
+abbrev pub is_over : Option Outcome → Bool
+is_over None = false
+is_over (Some o) = true
 
 -- it has started, and is not over
 unfoldable pub is_playing : Head → Bool
@@ -142,9 +151,9 @@ last_committed h = h.play.pending - 1
 -- ---- what several calls do
 
 -- the first outcome stays
-abbrev pub over : Standing → Outcome → Standing
-over Open o = Over o
-over (Over p) o = Over p
+abbrev pub over : Option Outcome → Outcome → Option Outcome
+over None o = Some o
+over (Some p) o = Some p
 
 unfoldable pub ended : Head → Outcome → Head
 ended h o = with_outcome h (over h.outcome o)

@@ -1,45 +1,44 @@
 -- Document 01, "Step and commit".
 -- Assumes nothing.
-use Rattle.std.specs.Prelude.{ℕ, ◌%◌, Bool, not, List, eqb, replicate}
+use Rattle.std.specs.Prelude.{ℕ, ◌%◌, Bool, not, List, Option, None, Some, Ok, Err, eqb, replicate}
 use Rattle.logic.specs.Test.{when◌then◌else◌}
 use Rattle.logic.specs.Saturating.{most, raised}
 use Rattle.peer.specs.Seats.{seats, less}
 use Rattle.params.specs.Params.{max_width, bad_state, roster_of, remotes_of}
 use Rattle.window.specs.Window.{held_by}
 use Rattle.window.specs.declared.Window.{Window}
-use Rattle.rows.specs.Rows.{rows_of, step_digest, laid}
+use Rattle.rows.specs.Rows.{rows_of, step_digest}
 use Rattle.fingerprint.specs.Cells.{with_own}
 use Rattle.fingerprint.specs.Judging.{parted}
 use Rattle.fingerprint.specs.declared.Fingerprint.{Fingerprint}
-use Rattle.fingerprint.specs.declared.Cell.TheVariants.{Holds}
 use Rattle.stats.specs.Stats.{stalled_of}
 use Rattle.session.specs.declared.Outcome.{Outcome}
 use Rattle.session.specs.declared.Outcome.TheVariants.{Desynced, PeerLeft, LeftLocally}
-use Rattle.session.specs.declared.Standing.{Standing}
-use Rattle.session.specs.declared.Standing.TheVariants.{Open, Over}
 use Rattle.session.specs.declared.Outstanding.{Outstanding}
-use Rattle.session.specs.declared.Outstanding.TheVariants.{Free, Out}
-use Rattle.session.specs.declared.WorldDigest.{WorldDigest}
-use Rattle.session.specs.declared.WorldDigest.TheVariants.{Absent, Present}
 use Rattle.session.specs.declared.Play.{Play}
 use Rattle.session.specs.declared.Head.{Head}
 use Rattle.session.specs.declared.Session.{Session}
 use Rattle.session.specs.declared.Advance.{Advance}
 use Rattle.session.specs.declared.Advance.TheVariants as Advance'
 use Rattle.session.specs.declared.Advanced.{Advanced}
-use Rattle.session.specs.declared.HeadAdvanced.{HeadAdvanced}
-use Rattle.session.specs.declared.Commit.{Commit}
-use Rattle.session.specs.declared.Commit.TheVariants as Commit'
-use Rattle.session.specs.declared.Committed.{Committed}
-use Rattle.session.specs.Session.{session_of, with_head, with_play, with_owed, with_stats, every_seat, ended}
+use Rattle.session.specs.declared.CommitError.TheVariants as Commit'
+use Rattle.session.specs.declared.Answered.{Answered}
+use Rattle.session.specs.Session.{session_of, with_head, session_with, with_play, with_owed, with_stats, every_seat}
+use Rattle.session.specs.Session.{ended}
+use Rattle.session.specs.Numbers.{Commit}
 
 -- ---- advance: the head goes by the seats that are held for the pending tick, and by their frames as rows
 
 unfoldable pub no_rows : List (List ℕ)
 no_rows = replicate seats (replicate max_width 0)
 
+pub record HeadAdvanced : Type 0 where
+  pub head : Head
+  pub answer : Advance
+  pub frames : List (List ℕ)
+
 abbrev pub beside : Head → Advance → List (List ℕ) → HeadAdvanced
-beside h answer rows = record { head = h; answer = answer; frames = laid rows }
+beside h answer rows = record { head = h; answer = answer; frames = rows }
 
 -- an answer that is no step
 abbrev pub idle : Head → Advance → HeadAdvanced
@@ -56,7 +55,7 @@ stepped h rows = with_play h (record {
   pending = h.play.pending;
   next_local = h.play.next_local;
   digest = step_digest h.play.digest h.play.pending h.params.count h.params.width rows;
-  step = Out h.play.pending (is_due h);
+  step = Some (record { tick = h.play.pending; due = is_due h });
   stalled = most;
 })
 
@@ -97,16 +96,16 @@ play_on h held rows =
     else stall h held
 
 -- desynced, ended; no outcome and not playing, waiting; every seat held, step; outcome, ended; else stalled
-unfoldable pub advance_by : Head → (held : ℕ) → List (List ℕ) → Standing → HeadAdvanced
-advance_by h held rows (Over (Desynced tick)) = idle h (Advance'.Ended (Desynced tick))
-advance_by h held rows (Over (PeerLeft peer tick)) = drain h held rows (PeerLeft peer tick)
-advance_by h held rows (Over (LeftLocally tick)) = drain h held rows (LeftLocally tick)
-advance_by h held rows Open = play_on h held rows
+unfoldable pub advance_by : Head → (held : ℕ) → List (List ℕ) → Option Outcome → HeadAdvanced
+advance_by h held rows (Some (Desynced tick)) = idle h (Advance'.Ended (Desynced tick))
+advance_by h held rows (Some (PeerLeft peer tick)) = drain h held rows (PeerLeft peer tick)
+advance_by h held rows (Some (LeftLocally tick)) = drain h held rows (LeftLocally tick)
+advance_by h held rows None = play_on h held rows
 
 -- step outstanding, waiting; else by the outcome
-unfoldable pub advance_from : Head → (held : ℕ) → List (List ℕ) → Outstanding → HeadAdvanced
-advance_from h held rows (Out tick due) = idle h Advance'.Waiting
-advance_from h held rows Free = advance_by h held rows h.outcome
+unfoldable pub advance_from : Head → (held : ℕ) → List (List ℕ) → Option Outstanding → HeadAdvanced
+advance_from h held rows (Some out) = idle h Advance'.Waiting
+advance_from h held rows None = advance_by h held rows h.outcome
 
 unfoldable pub advance_head : Head → (held : ℕ) → List (List ℕ) → HeadAdvanced
 advance_head h held rows =
@@ -116,8 +115,11 @@ advance_head h held rows =
 abbrev pub step_rows : Head → Window → List (List ℕ)
 step_rows h w = rows_of w h.play.pending h.params.count h.params.width
 
+abbrev pub advanced_with : Session → Advance → List (List ℕ) → Advanced
+advanced_with s answer rows = record { session = s; answer = answer; frames = rows }
+
 abbrev pub advanced : Session → HeadAdvanced → Advanced
-advanced s r = record { session = with_head s r.head; answer = r.answer; frames = r.frames }
+advanced s r = advanced_with (with_head s r.head) r.answer r.frames
 
 unfoldable pub advance : Session → Advanced
 advance s =
@@ -131,7 +133,7 @@ played h = with_play h (record {
   pending = raised h.play.pending;
   next_local = h.play.next_local;
   digest = h.play.digest;
-  step = Free;
+  step = None;
   stalled = h.play.stalled;
 })
 
@@ -144,31 +146,29 @@ judge s tick =
 
 -- one's own print goes in its cell and is owed to the pump
 abbrev pub kept : Session → Fingerprint → Session
-kept s f = session_of (with_owed s.head (Holds f)) s.window (with_own s.prints f)
+kept s f = session_of (with_owed s.head (Some f)) s.window (with_own s.prints f)
 
 -- and is judged
-unfoldable pub keep_digest : Session → ℕ → WorldDigest → Session
-keep_digest s tick Absent = s
-keep_digest s tick (Present state) =
+unfoldable pub keep_digest : Session → ℕ → Option ℕ → Session
+keep_digest s tick None = s
+keep_digest s tick (Some state) =
     judge (kept s (record { tick = tick; state = state; input = s.head.play.digest })) tick
 
 -- due differs from given
-abbrev pub mismatch : Bool → WorldDigest → Bool
-mismatch due Absent = due
-mismatch due (Present state) = not due
-
-abbrev pub committed : Session → Commit → Committed
-committed s answer = record { session = s; answer = answer }
+abbrev pub mismatch : Bool → Option ℕ → Bool
+mismatch due None = due
+mismatch due (Some state) = not due
 
 -- no step outstanding, 51 expecting pending; another tick, 51; due differs from given, 52; then pending rises by one,
 -- and a digest is kept
-unfoldable pub commit_from : Session → ℕ → WorldDigest → Outstanding → Committed
-commit_from s tick given Free = committed s (Commit'.OutOfOrder tick s.head.play.pending)
-commit_from s tick given (Out expected due) =
-    when not (eqb tick expected) then committed s (Commit'.OutOfOrder tick expected)
-    else when mismatch due given then committed s (Commit'.DigestMismatch tick due)
-    else committed (keep_digest (with_head s (played s.head)) tick given) Commit'.Done
+unfoldable pub commit_from : Session → ℕ → Option ℕ → Option Outstanding → Answered Commit
+commit_from s tick given None = session_with s (Err (Commit'.OutOfOrder tick s.head.play.pending))
+commit_from s tick given (Some out) =
+    when not (eqb tick out.tick) then session_with s (Err (Commit'.OutOfOrder tick out.tick))
+    else when mismatch out.due given then session_with s (Err (Commit'.DigestMismatch tick out.due))
+    else session_with (keep_digest (with_head s (played s.head)) tick given) (Ok tt)
 
-unfoldable pub commit : Session → ℕ → WorldDigest → Committed
+unfoldable pub commit : Session → ℕ → Option ℕ → Answered Commit
 commit s tick given =
-    when bad_state s.head.params then committed s Commit'.BadState else commit_from s tick given s.head.play.step
+    when bad_state s.head.params then session_with s (Err Commit'.BadState)
+    else commit_from s tick given s.head.play.step

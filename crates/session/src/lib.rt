@@ -1,51 +1,47 @@
-// The session of one player: what it holds, and the calls its host makes. A session is its head, which goes by value,
-// and the arrays of its window and its prints, which are lent to the calls in place: these copy none of them. The calls
-// by value take a whole session and hand the next one back; they are the calls in place on its parts. `deliver` and
-// `pump` are the crates that bring messages in and out.
-#![tactic(auto)]
+// The session of one player: what it holds, and the calls its host makes. A call in place is lent the session and
+// copies none of it; a call by value takes a whole session and hands the next one back, by the call in place on it.
+// `deliver` and `pump` are the crates that bring messages in and out.
+#![tactic(auto, unfolding(crate::proofs::Calls::calls))]
 
-ghost use Rattle.std.specs.Prelude.{◌≡◌, false, List, ℕ};
+ghost use Rattle.std.specs.Prelude.{◌≡◌, false};
 ghost use Rattle.params.specs.Params.{bad_state};
-ghost use Rattle.window.specs.Window.{window_of};
-ghost use Rattle.window.specs.declared.Window as Window';
-ghost use Rattle.fingerprint.specs.Cells.{prints_of};
-ghost use Rattle.fingerprint.specs.declared.Fingerprints as Fingerprints';
-ghost use Rattle.session.specs.Session.{session_of, fresh_head, every_seat, ended, over, starts, started};
-ghost use Rattle.session.specs.Host.{opened_of, opened, submit_head, submitted, submit, leave_head, leave};
-ghost use Rattle.session.specs.Step.{beside, idle, step_rows, take_step, stall, drain, play_on, advanced, advance};
-ghost use Rattle.session.specs.Step.{mismatch, keep_digest, committed, commit};
-ghost use Rattle.session.specs.declared.Outcome.TheVariants.{Desynced};
-ghost use Rattle.session.specs.Numbers.{submit_no, advance_no, commit_no, leave_no};
+ghost use Rattle.window.specs.Window.{held_by};
+ghost use Rattle.session.specs.Session.{head_with, session_with, fresh_head, every_seat, over, starts, started};
+ghost use Rattle.session.specs.Host.{opened, submit_head, submit, leave_head, leave};
+ghost use Rattle.session.specs.Step.{beside, idle, step_rows, take_step, stall, drain, play_on, advanced_with, advance};
+ghost use Rattle.session.specs.Step.{advance_head, mismatch, keep_digest, commit};
+ghost use Rattle.session.specs.Numbers.{outcome_no, submit_error_no, advance_no, commit_error_no};
+ghost use Rattle.session.specs.declared.SubmitError.TheVariants as SubmitError';
+ghost use Rattle.session.specs.declared.CommitError.TheVariants as CommitError';
 
-use fingerprint::{Cell, Fingerprint, Fingerprints};
-use params::{SessionParams, Validity};
+use fingerprint::{Fingerprint, Fingerprints};
+use logic::Numbered;
+use params::{BadState, ParamsError, SessionParams};
 use peer::PeerSet;
+use rows::Rows;
 use stats::SessionStats;
 use window::Window;
 
+// What stands beside an answer that is no step.
+const NO_ROWS: Rows = [[0; params::MAX_WIDTH as usize]; rows::ROWS];
+
 // Why a session ended.
-#[derive(Clone, Copy)]
+#[derive(Clone, Copy, PartialEq, Eq, Debug)]
 pub enum Outcome {
     Desynced { tick: u64 },
     PeerLeft { peer: u8, tick: u64 },
     LeftLocally { tick: u64 },
 }
 
-#[derive(Clone, Copy)]
-pub enum Standing {
-    Open,
-    Over(Outcome),
-}
-
 // The step that was handed out and not yet committed, and whether it owes a digest.
-#[derive(Clone, Copy)]
-pub enum Outstanding {
-    Free,
-    Out { tick: u64, due: bool },
+#[derive(Clone, Copy, PartialEq, Eq, Debug)]
+pub struct Outstanding {
+    pub tick: u64,
+    pub due: bool,
 }
 
 // What the pump sends next.
-#[derive(Clone, Copy)]
+#[derive(Clone, Copy, PartialEq, Eq, Debug)]
 pub enum Emit {
     Hello,
     Inputs,
@@ -62,7 +58,7 @@ pub struct Play {
     pub next_local: u64,
     // the input digest
     pub digest: u64,
-    pub step: Outstanding,
+    pub step: Option<Outstanding>,
     // the last stalled tick
     pub stalled: u64,
 }
@@ -90,8 +86,8 @@ pub struct Head {
     pub marks: Marks,
     pub pass: Pass,
     // the fingerprint that the pump owes to the others
-    pub owed: Cell,
-    pub outcome: Standing,
+    pub owed: Option<Fingerprint>,
+    pub outcome: Option<Outcome>,
     pub stats: SessionStats,
 }
 
@@ -102,65 +98,26 @@ pub struct Session {
     pub prints: Fingerprints,
 }
 
-// What a call came to: a session with its answer beside it, or, of a call in place, the head.
+// What a call by value came to: the session that stands after it, and the answer.
 #[derive(Clone, Copy)]
-pub struct Opened {
+pub struct Answered<A> {
     pub session: Session,
-    pub answer: Validity,
+    pub answer: A,
 }
 
-#[derive(Clone, Copy)]
-pub struct HeadOpened {
-    pub head: Head,
-    pub answer: Validity,
-}
-
-#[derive(Clone, Copy)]
-pub enum Submit {
-    Accepted(u64),
+#[derive(Clone, Copy, PartialEq, Eq, Debug)]
+pub enum SubmitError {
     Ended(Outcome),
     BadState,
     WrongWidth { saw: usize, agreed: u8 },
     WindowFull { tick: u64, pending: u64 },
 }
 
-#[derive(Clone, Copy)]
-pub struct Submitted {
-    pub session: Session,
-    pub answer: Submit,
-}
-
-#[derive(Clone, Copy)]
-pub struct HeadSubmitted {
-    pub head: Head,
-    pub answer: Submit,
-}
-
-// What the host says of its world after a step: its digest, where one is due.
-#[derive(Clone, Copy)]
-pub enum WorldDigest {
-    Absent,
-    Present(u64),
-}
-
-#[derive(Clone, Copy)]
-pub enum Commit {
-    Done,
+#[derive(Clone, Copy, PartialEq, Eq, Debug)]
+pub enum CommitError {
     BadState,
     OutOfOrder { saw: u64, expected: u64 },
     DigestMismatch { tick: u64, owed: bool },
-}
-
-#[derive(Clone, Copy)]
-pub struct Committed {
-    pub session: Session,
-    pub answer: Commit,
-}
-
-#[derive(Clone, Copy)]
-pub struct HeadCommitted {
-    pub head: Head,
-    pub answer: Commit,
 }
 
 // A tick to play: every seat of the roster pressed `width` bytes for it, which stand in the rows beside it.
@@ -172,6 +129,7 @@ pub struct Step {
     pub width: u8,
 }
 
+// An enum of its own, and no Result: to wait and to stall are no steps, and no refusals.
 #[derive(Clone, Copy)]
 pub enum Advance {
     Step(Step),
@@ -185,170 +143,109 @@ pub enum Advance {
     BadState,
 }
 
-// An enum holds no array, so the step's rows stand beside the answer, in a record; they are zero where it is no step.
+// The rows of a step stand beside its record (document 01); they are zero where the answer is no step.
 #[derive(Clone, Copy)]
 pub struct Advanced {
     pub session: Session,
     pub answer: Advance,
-    pub frames: rows::Frames,
+    pub frames: Rows,
 }
 
-#[derive(Clone, Copy)]
-pub struct HeadAdvanced {
-    pub head: Head,
-    pub answer: Advance,
-    pub frames: rows::Frames,
+impl From<BadState> for SubmitError {
+    ghost from_gives = { λ _ e. e ≡ SubmitError'.BadState };
+
+    fn from(_bad: BadState) -> SubmitError {
+        SubmitError::BadState
+    }
 }
 
-#[derive(Clone, Copy)]
-pub enum Leave {
-    Ended(Outcome),
-    BadState,
+impl From<BadState> for CommitError {
+    ghost from_gives = { λ _ e. e ≡ CommitError'.BadState };
+
+    fn from(_bad: BadState) -> CommitError {
+        CommitError::BadState
+    }
 }
 
-#[derive(Clone, Copy)]
-pub struct Left {
-    pub session: Session,
-    pub answer: Leave,
+// ---- document 01's numbers
+
+// A call that gives an outcome says that the session is over.
+impl Numbered for Outcome {
+    ghost number_of = { outcome_no };
+
+    fn number(self) -> u8 {
+        1
+    }
 }
 
-#[derive(Clone, Copy)]
-pub struct HeadLeft {
-    pub head: Head,
-    pub answer: Leave,
-}
+impl Numbered for SubmitError {
+    ghost number_of = { submit_error_no };
 
-impl Submit {
-    // Document 01's number.
-    pub fn number(self) -> u8
-        ensures { result ≡ submit_no self }
-    {
+    fn number(self) -> u8 {
         match self {
-            Submit::Accepted(_) => 0,
-            Submit::Ended(_) => 1,
-            Submit::BadState => 20,
-            Submit::WrongWidth { saw: _, agreed: _ } => 41,
-            Submit::WindowFull {
-                tick: _,
-                pending: _,
-            } => 42,
+            SubmitError::Ended(outcome) => outcome.number(),
+            SubmitError::BadState => 20,
+            SubmitError::WrongWidth { .. } => 41,
+            SubmitError::WindowFull { .. } => 42,
         }
     }
 }
 
-impl Leave {
-    // Document 01's number.
-    pub fn number(self) -> u8
-        ensures { result ≡ leave_no self }
-    {
-        match self {
-            Leave::Ended(_) => 1,
-            Leave::BadState => 20,
-        }
-    }
-}
+// To wait or to stall is no refusal.
+impl Numbered for Advance {
+    ghost number_of = { advance_no };
 
-impl Advance {
-    // Document 01's number. To wait or to stall is no refusal.
-    pub fn number(self) -> u8
-        ensures { result ≡ advance_no self }
-    {
+    fn number(self) -> u8 {
         match self {
-            Advance::Step(_) => 0,
-            Advance::Waiting => 0,
-            Advance::Stalled {
-                tick: _,
-                waiting: _,
-                pumps: _,
-            } => 0,
-            Advance::Ended(_) => 1,
+            Advance::Step(_) | Advance::Waiting | Advance::Stalled { .. } => 0,
+            Advance::Ended(outcome) => outcome.number(),
             Advance::BadState => 20,
         }
     }
 }
 
-impl Commit {
-    // Document 01's number.
-    pub fn number(self) -> u8
-        ensures { result ≡ commit_no self }
-    {
+impl Numbered for CommitError {
+    ghost number_of = { commit_error_no };
+
+    fn number(self) -> u8 {
         match self {
-            Commit::Done => 0,
-            Commit::BadState => 20,
-            Commit::OutOfOrder {
-                saw: _,
-                expected: _,
-            } => 51,
-            Commit::DigestMismatch { tick: _, owed: _ } => 52,
+            CommitError::BadState => 20,
+            CommitError::OutOfOrder { .. } => 51,
+            CommitError::DigestMismatch { .. } => 52,
         }
     }
 }
 
-impl WorldDigest {
-    // Given where none is due, or not given where one is.
-    fn mismatches(self, due: bool) -> bool
-        ensures { result ≡ mismatch due self }
-    {
-        match self {
-            WorldDigest::Absent => due,
-            WorldDigest::Present(_) => !due,
-        }
-    }
-}
-
-// ---- what a delivery needs to know too, over values that are no session
+// ---- what a delivery needs to know too. It stands over values that are no session: a method that sets a mark or an
+// outcome would be a call of a host's that skips 20
 
 // Whether a player starts: every seat's Hello is in, and the next local tick exceeds the delay.
 pub fn starts(params: SessionParams, hellos: peer::Bits, next_local: u64) -> bool
     ensures { result ≡ starts params hellos next_local }
 {
-    if !params.roster().subset(PeerSet(hellos)) {
-        return false;
-    }
-    logic::long(params.delay) < next_local
+    params.roster().subset(PeerSet(hellos)) && u64::from(params.delay) < next_local
 }
 
 // The outcome that stands after a new one: the first stays.
-pub fn outcome_after(was: Standing, new: Outcome) -> Standing
+pub fn outcome_after(was: Option<Outcome>, new: Outcome) -> Option<Outcome>
     ensures { result ≡ over was new }
 {
-    match was {
-        Standing::Open => Standing::Over(new),
-        Standing::Over(first) => Standing::Over(first),
-    }
+    was.or(Some(new))
 }
 
-// ---- the calls in place
-
-fn beside(head: Head, answer: Advance, rows: [[u8; 16]; rows::ROWS]) -> HeadAdvanced
-    ensures { result ≡ beside head answer rows }
-{
-    let frames = rows::lay(rows);
-    HeadAdvanced {
-        head: head,
-        answer: answer,
-        frames: frames,
-    }
-}
-
-// An answer that is no step.
-fn idle(head: Head, answer: Advance) -> HeadAdvanced
-    ensures { result ≡ idle head answer }
-{
-    beside(head, answer, [[0u8; 16]; rows::ROWS])
-}
+// ---- what a call does to the head
 
 impl Head {
     fn new(params: SessionParams) -> Head
         ensures { result ≡ fresh_head params }
     {
         Head {
-            params: params,
+            params,
             play: Play {
                 pending: 0,
                 next_local: 0,
                 digest: hash::StateHash::new().finish(),
-                step: Outstanding::Free,
+                step: None,
                 stalled: logic::MOST,
             },
             marks: Marks {
@@ -360,389 +257,242 @@ impl Head {
                 kind: Emit::Hello,
                 place: 0,
             },
-            owed: Cell::Empty,
-            outcome: Standing::Open,
+            owed: None,
+            outcome: None,
             stats: SessionStats::new(),
         }
     }
 
-    // A session that has not started. Where the parameters fail a check it is there all the same, and every call on it
-    // is refused with 20.
-    pub fn open(
-        params: SessionParams,
-        ring: &mut [u8; window::RING],
-        ticks: &mut [u64; window::SLOTS],
-        present: &mut [peer::Bits; window::SLOTS],
-        held: &mut [bool; fingerprint::CELLS],
-        printed: &mut [u64; fingerprint::CELLS],
-        states: &mut [u64; fingerprint::CELLS],
-        inputs: &mut [u64; fingerprint::CELLS],
-    ) -> HeadOpened
-        ensures { opened_of result.head (window_of ring.new ticks.new present.new)
-            (prints_of held.new printed.new states.new inputs.new) result.answer
-            ≡ opened params }
-    {
-        *ring = [0u8; window::RING];
-        *ticks = [logic::MOST; window::SLOTS];
-        *present = [0; window::SLOTS];
-        *held = [false; fingerprint::CELLS];
-        *printed = [0; fingerprint::CELLS];
-        *states = [0; fingerprint::CELLS];
-        *inputs = [0; fingerprint::CELLS];
-        HeadOpened {
-            head: Head::new(params),
-            answer: params.validate(),
-        }
-    }
-
     // Starts playing if all is there.
-    fn maybe_start(mut self) -> Head
-        ensures { result ≡ started self }
+    fn maybe_start(&mut self)
+        ensures { self.new ≡ started self.old }
     {
         if starts(self.params, self.marks.hellos, self.play.next_local) {
             self.marks.started = true;
         }
-        self
     }
 
-    // Whether a press of so many bytes is taken, and what it does to the head.
-    fn take_press(mut self, saw: usize) -> HeadSubmitted
-        ensures { result ≡ submit_head self saw }
+    // Whether a press of so many bytes is taken, and for which tick.
+    fn take_press(&mut self, saw: usize) -> Result<u64, SubmitError>
+        ensures { head_with self.new result ≡ submit_head self.old saw }
     {
-        if self.params.bad_state() {
-            return HeadSubmitted {
-                head: self,
-                answer: Submit::BadState,
-            };
-        }
-        let was = self.outcome;
-        if let Standing::Over(outcome) = was {
-            return HeadSubmitted {
-                head: self,
-                answer: Submit::Ended(outcome),
-            };
+        self.params.check()?;
+        if let Some(outcome) = self.outcome {
+            return Err(SubmitError::Ended(outcome));
         }
         let agreed = self.params.width;
-        if saw != logic::wide(agreed) {
-            return HeadSubmitted {
-                head: self,
-                answer: Submit::WrongWidth {
-                    saw: saw,
-                    agreed: agreed,
-                },
-            };
+        if saw != usize::from(agreed) {
+            return Err(SubmitError::WrongWidth { saw, agreed });
         }
         let tick = self.play.next_local;
         let pending = self.play.pending;
-        if logic::saturating_sub(tick, pending) >= peer::WINDOW {
-            return HeadSubmitted {
-                head: self,
-                answer: Submit::WindowFull {
-                    tick: tick,
-                    pending: pending,
-                },
-            };
+        if tick.saturating_sub(pending) >= peer::WINDOW {
+            return Err(SubmitError::WindowFull { tick, pending });
         }
-        let next = logic::raise(tick);
-        self.play.next_local = next;
-        HeadSubmitted {
-            head: self.maybe_start(),
-            answer: Submit::Accepted(tick),
-        }
+        self.play.next_local = logic::raise(tick);
+        self.maybe_start();
+        Ok(tick)
     }
 
-    // This player's press for the next local tick.
-    pub fn submit(
-        self,
-        ring: &mut [u8; window::RING],
-        ticks: &mut [u64; window::SLOTS],
-        present: &mut [peer::Bits; window::SLOTS],
-        input: &[u8],
-    ) -> HeadSubmitted
-        ensures { (p : Fingerprints'.Fingerprints) →
-            submitted
-            (session_of result.head (window_of ring.new ticks.new present.new) p) result.answer
-            ≡ submit (session_of self (window_of ring.old ticks.old present.old) p)
-            input.now }
+    // Ends the session as left, unless it is over already, and gives the outcome that stands.
+    fn leave(&mut self) -> Result<Outcome, BadState>
+        ensures { head_with self.new result ≡ leave_head self.old }
     {
-        let tick = self.play.next_local;
-        let taken = self.take_press(input.len());
-        let answer = taken.answer;
-        if answer.number() != 0 {
-            return taken;
-        }
-        window::write_frame(ring, ticks, present, self.params.local, tick, input);
-        taken
-    }
-
-    // Leaves the circle. After any outcome nothing changes, and that one is given.
-    pub fn leave(self) -> HeadLeft
-        ensures { result ≡ leave_head self }
-    {
-        if self.params.bad_state() {
-            return HeadLeft {
-                head: self,
-                answer: Leave::BadState,
-            };
-        }
-        let was = self.outcome;
-        if let Standing::Over(outcome) = was {
-            return HeadLeft {
-                head: self,
-                answer: Leave::Ended(outcome),
-            };
+        self.params.check()?;
+        if let Some(outcome) = self.outcome {
+            return Ok(outcome);
         }
         let outcome = Outcome::LeftLocally {
-            tick: logic::saturating_sub(self.play.pending, 1),
+            tick: self.play.pending.saturating_sub(1),
         };
-        let left = Head {
-            outcome: Standing::Over(outcome),
-            pass: Pass {
-                kind: Emit::Bye,
-                place: 0,
-            },
-            ..self
+        self.outcome = Some(outcome);
+        self.pass = Pass {
+            kind: Emit::Bye,
+            place: 0,
         };
-        HeadLeft {
-            head: left,
-            answer: Leave::Ended(outcome),
-        }
+        Ok(outcome)
     }
 
     // The pending tick is handed out: its frames are hashed and laid in rows, and it stands out until it is committed.
-    fn take_step(mut self, ring: &[u8; window::RING]) -> HeadAdvanced
-        requires { bad_state self.params ≡ false }
-        ensures { (ticks present : List ℕ) →
-            result ≡ take_step self (step_rows self (window_of ring.now ticks present)) }
+    fn take_step(&mut self, window: &Window) -> (Advance, Rows)
+        requires { bad_state self.old.params ≡ false }
+        ensures { beside self.new result.0 result.1 ≡ take_step self.old (step_rows self.old window.now) }
     {
         let tick = self.play.pending;
         let count = self.params.count;
         let width = self.params.width;
-        let due = tick % logic::long(self.params.period) == 0;
-        let rows = rows::rows_at(ring, tick, count, width);
-        let was = self.play;
-        let play = Play {
-            digest: rows::step_digest(was.digest, tick, rows, count, width),
-            step: Outstanding::Out {
-                tick: tick,
-                due: due,
-            },
-            stalled: logic::MOST,
-            ..was
+        let due = tick % u64::from(self.params.period) == 0;
+        let rows = rows::rows_at(window, tick, count, width);
+        self.play.digest = rows::step_digest(self.play.digest, tick, rows, count, width);
+        self.play.step = Some(Outstanding { tick, due });
+        self.play.stalled = logic::MOST;
+        let step = Step {
+            tick,
+            due,
+            count,
+            width,
         };
-        self.play = play;
-        beside(
-            self,
-            Advance::Step(Step {
-                tick: tick,
-                due: due,
-                count: count,
-                width: width,
-            }),
-            rows,
-        )
+        (Advance::Step(step), rows)
     }
 
     // The pending tick waits for a seat that is not among those held.
-    fn stall(mut self, held: PeerSet) -> HeadAdvanced
-        ensures { result ≡ stall self held.0 }
+    fn stall(&mut self, held: PeerSet) -> Advance
+        ensures { idle self.new result ≡ stall self.old held.0 }
     {
         let tick = self.play.pending;
-        let waiting = self.params.roster().without_all(held).bits();
         self.stats = self.stats.stalled(self.play.stalled == tick);
         self.play.stalled = tick;
-        let pumps = self.stats.stall_pumps;
-        idle(
-            self,
-            Advance::Stalled {
-                tick: tick,
-                waiting: waiting,
-                pumps: pumps,
-            },
-        )
+        Advance::Stalled {
+            tick,
+            waiting: self.params.roster().without_all(held).bits(),
+            pumps: self.stats.stall_pumps,
+        }
     }
 
     // Whether every seat of the roster is among these.
-    fn every_seat(self, set: PeerSet) -> bool
-        ensures { result ≡ every_seat self set.0 }
+    fn every_seat(&self, set: PeerSet) -> bool
+        ensures { result ≡ every_seat self.now set.0 }
     {
         self.params.roster().subset(set)
     }
 
     // After an outcome that is no desync, what every seat was held for is still played.
-    fn drain(self, ring: &[u8; window::RING], held: PeerSet, outcome: Outcome) -> HeadAdvanced
-        requires { bad_state self.params ≡ false }
-        ensures { (ticks present : List ℕ) →
-            result ≡ drain self held.0 (step_rows self (window_of ring.now ticks present)) outcome }
+    fn drain(&mut self, window: &Window, held: PeerSet, outcome: Outcome) -> (Advance, Rows)
+        requires { bad_state self.old.params ≡ false }
+        ensures { beside self.new result.0 result.1
+            ≡ drain self.old held.0 (step_rows self.old window.now) outcome }
     {
         if self.every_seat(held) {
-            return self.take_step(ring);
+            return self.take_step(window);
         }
-        idle(self, Advance::Ended(outcome))
+        (Advance::Ended(outcome), NO_ROWS)
     }
 
-    fn play_on(self, ring: &[u8; window::RING], held: PeerSet) -> HeadAdvanced
-        requires { bad_state self.params ≡ false }
-        ensures { (ticks present : List ℕ) →
-            result ≡ play_on self held.0 (step_rows self (window_of ring.now ticks present)) }
+    // With no outcome, a player that has started takes the pending tick or stalls at it.
+    fn play_on(&mut self, window: &Window, held: PeerSet) -> (Advance, Rows)
+        requires { bad_state self.old.params ≡ false }
+        ensures { beside self.new result.0 result.1
+            ≡ play_on self.old held.0 (step_rows self.old window.now) }
     {
         if !self.marks.started {
-            return idle(self, Advance::Waiting);
+            return (Advance::Waiting, NO_ROWS);
         }
         if self.every_seat(held) {
-            return self.take_step(ring);
+            return self.take_step(window);
         }
-        self.stall(held)
+        (self.stall(held), NO_ROWS)
     }
 
     // The next tick to play, if there is one.
-    pub fn advance(
-        self,
-        ring: &[u8; window::RING],
-        ticks: &[u64; window::SLOTS],
-        present: &[peer::Bits; window::SLOTS],
-    ) -> HeadAdvanced
-        ensures { (p : Fingerprints'.Fingerprints) →
-            advanced (session_of self (window_of ring.now ticks.now present.now) p) result
-            ≡ advance (session_of self (window_of ring.now ticks.now present.now) p) }
+    fn advance(&mut self, window: &Window) -> (Advance, Rows)
+        ensures { beside self.new result.0 result.1
+            ≡ advance_head self.old (held_by window.now self.old.play.pending) (step_rows self.old window.now) }
     {
         if self.params.bad_state() {
-            return idle(self, Advance::BadState);
+            return (Advance::BadState, NO_ROWS);
         }
-        let play = self.play;
-        let outstanding = play.step;
-        if let Outstanding::Out { tick: _, due: _ } = outstanding {
-            return idle(self, Advance::Waiting);
+        if self.play.step.is_some() {
+            return (Advance::Waiting, NO_ROWS);
         }
-        let held = window::held_by(ticks, present, self.play.pending);
-        let standing = self.outcome;
-        let Standing::Over(outcome) = standing else {
-            return self.play_on(ring, held);
-        };
-        match outcome {
-            Outcome::Desynced { tick: _ } => idle(self, Advance::Ended(outcome)),
-            Outcome::PeerLeft { peer: _, tick: _ } => self.drain(ring, held, outcome),
-            Outcome::LeftLocally { tick: _ } => self.drain(ring, held, outcome),
+        let held = window.held_by(self.play.pending);
+        match self.outcome {
+            None => self.play_on(window, held),
+            Some(desynced @ Outcome::Desynced { .. }) => (Advance::Ended(desynced), NO_ROWS),
+            Some(outcome) => self.drain(window, held, outcome),
         }
     }
+}
 
-    // Ends the session as desynced at a tick, unless it is over already.
-    fn part(self, tick: u64) -> Head
-        ensures { result ≡ ended self (Desynced tick) }
+// ---- the calls in place
+
+// Whether a digest is given where none is due, or not given where one is.
+fn mismatches(digest: Option<u64>, due: bool) -> bool
+    ensures { result ≡ mismatch due digest }
+{
+    digest.is_some() != due
+}
+
+impl Session {
+    // A session that has not started. Where the parameters fail a check it is there all the same, and every call on it
+    // is refused with 20.
+    pub fn open_in(&mut self, params: SessionParams) -> Result<(), ParamsError>
+        ensures { session_with self.new result ≡ opened params }
     {
-        let was = self.outcome;
-        Head {
-            outcome: outcome_after(was, Outcome::Desynced { tick: tick }),
-            ..self
-        }
+        self.head = Head::new(params);
+        self.window = Window::new();
+        self.prints = Fingerprints::new();
+        params.validate()
+    }
+
+    // This player's press for the next local tick.
+    pub fn submit_in(&mut self, input: &[u8]) -> Result<u64, SubmitError>
+        ensures { session_with self.new result ≡ submit self.old input.now }
+    {
+        let tick = self.head.take_press(input.len())?;
+        self.window.write_frame(self.head.params.local, tick, input);
+        Ok(tick)
+    }
+
+    // The next tick to play, if there is one.
+    pub fn advance_in(&mut self) -> (Advance, Rows)
+        ensures { advanced_with self.new result.0 result.1 ≡ advance self.old }
+    {
+        self.head.advance(&self.window)
     }
 
     // The host's digest of its world after a tick: kept, owed to the others, and judged.
-    fn keep_digest(
-        self,
-        held: &mut [bool; fingerprint::CELLS],
-        printed: &mut [u64; fingerprint::CELLS],
-        states: &mut [u64; fingerprint::CELLS],
-        inputs: &mut [u64; fingerprint::CELLS],
-        tick: u64,
-        digest: WorldDigest,
-    ) -> Head
-        ensures { (w : Window'.Window) →
-            session_of result w (prints_of held.new printed.new states.new inputs.new)
-            ≡ keep_digest
-            (session_of self w
-            (prints_of held.old printed.old states.old inputs.old))
-            tick digest }
+    fn keep_digest(&mut self, tick: u64, digest: Option<u64>)
+        ensures { self.new ≡ keep_digest self.old tick digest }
     {
-        let WorldDigest::Present(state) = digest else {
-            return self;
+        let Some(state) = digest else {
+            return;
         };
         let print = Fingerprint {
-            tick: tick,
-            state: state,
-            input: self.play.digest,
+            tick,
+            state,
+            input: self.head.play.digest,
         };
-        fingerprint::store_own(held, printed, states, inputs, print);
-        let kept = Head {
-            owed: Cell::Holds(print),
-            ..self
-        };
-        if fingerprint::parted(held, printed, states, inputs, self.params.remotes(), tick) {
-            return kept.part(tick);
+        self.prints.store_own(print);
+        self.head.owed = Some(print);
+        if self.prints.parted(self.head.params.remotes(), tick) {
+            self.head.outcome = outcome_after(self.head.outcome, Outcome::Desynced { tick });
         }
-        kept
     }
 
     // The step was played. A digest is given exactly where one is due.
-    pub fn commit(
-        mut self,
-        held: &mut [bool; fingerprint::CELLS],
-        printed: &mut [u64; fingerprint::CELLS],
-        states: &mut [u64; fingerprint::CELLS],
-        inputs: &mut [u64; fingerprint::CELLS],
-        tick: u64,
-        digest: WorldDigest,
-    ) -> HeadCommitted
-        ensures { (w : Window'.Window) →
-            committed
-            (session_of result.head w
-            (prints_of held.new printed.new states.new inputs.new))
-            result.answer
-            ≡ commit
-            (session_of self w
-            (prints_of held.old printed.old states.old inputs.old))
-            tick digest }
+    pub fn commit_in(&mut self, tick: u64, digest: Option<u64>) -> Result<(), CommitError>
+        ensures { session_with self.new result ≡ commit self.old tick digest }
     {
-        if self.params.bad_state() {
-            return HeadCommitted {
-                head: self,
-                answer: Commit::BadState,
-            };
-        }
-        let was = self.play;
-        let outstanding = was.step;
-        let Outstanding::Out {
-            tick: expected,
-            due,
-        } = outstanding
-        else {
-            let pending = was.pending;
-            return HeadCommitted {
-                head: self,
-                answer: Commit::OutOfOrder {
-                    saw: tick,
-                    expected: pending,
-                },
-            };
+        self.head.params.check()?;
+        let Some(out) = self.head.play.step else {
+            return Err(CommitError::OutOfOrder {
+                saw: tick,
+                expected: self.head.play.pending,
+            });
         };
-        if tick != expected {
-            return HeadCommitted {
-                head: self,
-                answer: Commit::OutOfOrder {
-                    saw: tick,
-                    expected: expected,
-                },
-            };
+        if tick != out.tick {
+            return Err(CommitError::OutOfOrder {
+                saw: tick,
+                expected: out.tick,
+            });
         }
-        if digest.mismatches(due) {
-            return HeadCommitted {
-                head: self,
-                answer: Commit::DigestMismatch {
-                    tick: tick,
-                    owed: due,
-                },
-            };
+        if mismatches(digest, out.due) {
+            return Err(CommitError::DigestMismatch {
+                tick,
+                owed: out.due,
+            });
         }
-        let play = Play {
-            pending: logic::raise(was.pending),
-            step: Outstanding::Free,
-            ..was
-        };
-        self.play = play;
-        HeadCommitted {
-            head: self.keep_digest(held, printed, states, inputs, tick, digest),
-            answer: Commit::Done,
-        }
+        self.head.play.pending = logic::raise(self.head.play.pending);
+        self.head.play.step = None;
+        self.keep_digest(tick, digest);
+        Ok(())
+    }
+
+    // Leaves the circle. After any outcome nothing changes, and that one is given.
+    pub fn leave_in(&mut self) -> Result<Outcome, BadState>
+        ensures { session_with self.new result ≡ leave self.old }
+    {
+        self.head.leave()
     }
 }
 
@@ -750,7 +500,7 @@ impl Head {
 
 impl Session {
     // A session that has not started, whatever the answer.
-    pub fn open(params: SessionParams) -> Opened
+    pub fn open(params: SessionParams) -> Answered<Result<(), ParamsError>>
         ensures { result ≡ opened params }
     {
         let session = Session {
@@ -758,36 +508,20 @@ impl Session {
             window: Window::new(),
             prints: Fingerprints::new(),
         };
-        Opened {
-            session: session,
+        Answered {
+            session,
             answer: params.validate(),
         }
     }
 
     // This player's press for the next local tick.
-    pub fn submit(mut self, input: &[u8]) -> Submitted
+    pub fn submit(mut self, input: &[u8]) -> Answered<Result<u64, SubmitError>>
         ensures { result ≡ submit self input.now }
     {
-        let window = self.window;
-        let mut ring = window.ring;
-        let mut ticks = window.ticks;
-        let mut present = window.present;
-        let done = self.head.submit(&mut ring, &mut ticks, &mut present, input);
-        let head = done.head;
-        let answer = done.answer;
-        let window = Window {
-            ring: ring,
-            ticks: ticks,
-            present: present,
-        };
-        let session = Session {
-            head: head,
-            window: window,
-            ..self
-        };
-        Submitted {
-            session: session,
-            answer: answer,
+        let answer = self.submit_in(input);
+        Answered {
+            session: self,
+            answer,
         }
     }
 
@@ -795,65 +529,33 @@ impl Session {
     pub fn advance(mut self) -> Advanced
         ensures { result ≡ advance self }
     {
-        let done = self.head.advance(&self.window.ring, &self.window.ticks, &self.window.present);
-        let head = done.head;
-        let answer = done.answer;
-        let frames = done.frames;
-        self.head = head;
+        let (answer, frames) = self.advance_in();
         Advanced {
             session: self,
-            answer: answer,
-            frames: frames,
+            answer,
+            frames,
         }
     }
 
     // The step was played. A digest is given exactly where one is due.
-    pub fn commit(mut self, tick: u64, digest: WorldDigest) -> Committed
+    pub fn commit(mut self, tick: u64, digest: Option<u64>) -> Answered<Result<(), CommitError>>
         ensures { result ≡ commit self tick digest }
     {
-        let prints = self.prints;
-        let mut held = prints.held;
-        let mut ticks = prints.ticks;
-        let mut states = prints.states;
-        let mut inputs = prints.inputs;
-        let done = self.head.commit(
-            &mut held,
-            &mut ticks,
-            &mut states,
-            &mut inputs,
-            tick,
-            digest,
-        );
-        let head = done.head;
-        let answer = done.answer;
-        let prints = Fingerprints {
-            held: held,
-            ticks: ticks,
-            states: states,
-            inputs: inputs,
-        };
-        let session = Session {
-            head: head,
-            prints: prints,
-            ..self
-        };
-        Committed {
-            session: session,
-            answer: answer,
+        let answer = self.commit_in(tick, digest);
+        Answered {
+            session: self,
+            answer,
         }
     }
 
     // Leaves the circle. After any outcome nothing changes, and that one is given.
-    pub fn leave(mut self) -> Left
+    pub fn leave(mut self) -> Answered<Result<Outcome, BadState>>
         ensures { result ≡ leave self }
     {
-        let done = self.head.leave();
-        let head = done.head;
-        let answer = done.answer;
-        self.head = head;
-        Left {
+        let answer = self.leave_in();
+        Answered {
             session: self,
-            answer: answer,
+            answer,
         }
     }
 }
