@@ -13,6 +13,6 @@ use Rattle.deliver.specs.Deliver.{accept, from_header, deliver_form, deliver_by,
 unfoldable pub delivering : Unit {0}
 unfolding hosting sum hello_form inputs_form body_form form_of
     same_bytes absorb_one frame_at absorb_first absorb_inputs arrival_by arrival raised_if counted_of repeated_of
-    refused end_with greeted accept_hello marked note_answer noted frames_noted frames_taken absorb judged hear_by hear accept
-    from_header deliver_form deliver_by deliver
+    refused end_with greeted accept_hello marked note_answer noted frames_noted frames_taken absorb judged hear_by hear
+    accept from_header deliver_form deliver_by deliver
 delivering = tt

@@ -11,10 +11,10 @@ use Rattle.window.specs.Window.{is_held}
 use Rattle.stats.specs.declared.SessionStats.{SessionStats}
 use Rattle.session.specs.Host.{opened}
 use Rattle.session.specs.declared.Session.{Session}
+use Rattle.session.specs.declared.Answered.{Answered}
 use Rattle.deliver.specs.declared.Refusal.TheVariants.{OutOfWindow, Contradiction, WrongWidth}
 use Rattle.deliver.specs.declared.Delivery.{Delivery}
 use Rattle.deliver.specs.declared.Delivery.TheVariants.{Accepted, Refused}
-use Rattle.deliver.specs.declared.Delivered.{Delivered}
 use Rattle.deliver.specs.Numbers.{delivery_no}
 use Rattle.deliver.specs.Deliver.{deliver}
 use Rattle.deliver.proofs.Computing.{delivering}
@@ -25,7 +25,7 @@ record Shown : Type 0 where
   stats : SessionStats
   held : Bool
 
-shown : Delivered → ℕ → Shown
+shown : Answered Delivery → ℕ → Shown
 shown d tick = record { answer = d.answer; stats = d.session.head.stats; held = is_held d.session.window 1 tick }
 
 -- no digest came, and nothing stalled
@@ -48,7 +48,7 @@ pair : SessionParams
 pair = record { count = 2; local = 0; width = 1; delay = 0; period = 1; seed = 0; content = 0; rules = 0; session = 9 }
 
 -- seat 1 sends `count` frames of `width` bytes each from this tick
-send : Session → (first count width : ℕ) → List ℕ → Delivered
+send : Session → (first count width : ℕ) → List ℕ → Answered Delivery
 send s first count width run =
     let inputs = Inputs (record { first = first; count = count; width = width }) in
     deliver s 1 (record { sender = 1; session = 9; body = inputs }) run
@@ -100,7 +100,7 @@ unfolding delivering shown did pair send new one two
 other_width = refl
 
 -- the answer, and the seats that are marked as playing
-marked_by : Delivered → List ℕ
+marked_by : Answered Delivery → List ℕ
 marked_by d = delivery_no d.answer ∷ d.session.head.marks.playing ∷ []
 
 -- 27 and 29 come past 21 to 25 and set seat 1's mark; a run that is too short is 21 and sets none

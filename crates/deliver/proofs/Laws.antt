@@ -6,6 +6,7 @@ use mathlib.Core.Path.{◌≡◌, refl, sym, ap, ◌∙◌}
 use mathlib.Core.List.{List}
 use mathlib.Core.Bool.{true, false, not, true≢false}
 use native.Mathlib.Omega.{arith}
+use Rattle.std.specs.Prelude.{Err, None, Ok, Option, Result, Some}
 use Rattle.logic.specs.Saturating.{most}
 use borrow.Author.Tests.{eqb-true, not-false}
 use Rattle.logic.proofs.Cases.{by_test, case_lt, if_true, if_false}
@@ -16,8 +17,7 @@ use Rattle.params.specs.Params.{max_width, bad_state, roster_of}
 use Rattle.params.specs.declared.SessionParams.{SessionParams}
 use Rattle.params.proofs.Laws.{Sound}
 use Rattle.wire.specs.Wire.{form_of}
-use Rattle.wire.specs.declared.Form.{Form}
-use Rattle.wire.specs.declared.Form.TheVariants as Form'
+use Rattle.wire.specs.declared.WireError.{WireError}
 use Rattle.wire.specs.declared.Body.{Body}
 use Rattle.wire.specs.declared.Body.TheVariants as Body'
 use Rattle.wire.specs.declared.HelloBody.{HelloBody}
@@ -35,30 +35,28 @@ use Rattle.stats.specs.Stats.{counted_of, repeated_of}
 use Rattle.stats.specs.declared.SessionStats.{SessionStats}
 use Rattle.stats.proofs.Laws.{Each, counted_rises}
 use Rattle.session.specs.Session.{session_of, with_head, with_marks, with_stats, started, ended}
+use Rattle.session.specs.Session.{HeadAnswered, session_with}
 use Rattle.session.specs.declared.Outcome.{Outcome}
-use Rattle.session.specs.declared.Standing.{Standing}
-use Rattle.session.specs.declared.Standing.TheVariants.{Open, Over}
 use Rattle.session.specs.declared.Head.{Head}
 use Rattle.session.specs.declared.Session.{Session}
+use Rattle.session.specs.declared.Answered.{Answered}
 use Rattle.deliver.specs.declared.Refusal.{Refusal}
 use Rattle.deliver.specs.declared.Delivery.{Delivery}
 use Rattle.deliver.specs.declared.Delivery.TheVariants.{Accepted, Ended, BadState, Refused}
-use Rattle.deliver.specs.declared.Delivered.{Delivered}
-use Rattle.deliver.specs.declared.HeadDelivered.{HeadDelivered}
 use Rattle.deliver.specs.Numbers.{refusal_no}
-use Rattle.deliver.specs.Deliver.{delivered, heard, refused, end_with, greeted, accept_hello, marked, note_answer}
+use Rattle.deliver.specs.Deliver.{heard, refused, end_with, greeted, accept_hello, marked, note_answer}
 use Rattle.deliver.specs.Deliver.{noted, refuse, frames_noted, frames_taken, absorb, judged, hear_by, hear}
 use Rattle.deliver.specs.Deliver.{accept, from_header, deliver_form, deliver_by, deliver}
 
 -- ---- 20 and an ended session: nothing changes
 
 pub deliver_bad : (s : Session) (source : ℕ) (m : Message) (run : List ℕ) → bad_state s.head.params ≡ true
-    → deliver s source m run ≡ delivered s BadState
+    → deliver s source m run ≡ session_with s BadState
 unfolding deliver
 deliver_bad s source m run bad = if_true _ _ bad
 
 pub deliver-ended : (s : Session) (source : ℕ) (m : Message) (run : List ℕ) (o : Outcome)
-    → bad_state s.head.params ≡ false → s.head.outcome ≡ Over o → deliver s source m run ≡ delivered s (Ended o)
+    → bad_state s.head.params ≡ false → s.head.outcome ≡ Some o → deliver s source m run ≡ session_with s (Ended o)
 unfolding deliver deliver_by
 deliver-ended s source m run o good e = if_false _ _ good ∙ ap (deliver_by s source m run) e
 
@@ -89,7 +87,7 @@ pub record Keeps (h k : Head) : Type 0 where
   pub params : k.params ≡ h.params
   pub play : k.play ≡ h.play
 
-pub record OfDelivery (s : Session) (r : Delivered) : Type 0 where
+pub record OfDelivery (s : Session) (r : Answered Delivery) : Type 0 where
   -- 21 to 31 change the marks and the counters alone
   pub refused : (x : Refusal) → r.answer ≡ Refused x → OnlyMarks s r.session
   -- no counter falls
@@ -128,7 +126,7 @@ unmoved = record { stats = refl; window = refl; keeps = record { params = refl; 
 
 -- an answer over it that is no refusal
 calm : {s : Session} (t : Session) (a : Delivery) → ((x : Refusal) → a ≡ Refused x → ⊥) → Calm s t
-    → OfDelivery s (delivered t a)
+    → OfDelivery s (session_with t a)
 calm {s} t a n c = record {
   refused = λ x q. absurd (n x q);
   rises = rw c.stats (rises_not s.head.stats);
@@ -188,7 +186,7 @@ module _ (s : Session) (fit : Fit s.head.stats) where
   hello_of_lem : (sender : ℕ) (h : HelloBody) → OfDelivery s (heard s (accept_hello s.head sender h))
   unfolding accept_hello greeted
   hello_of_lem sender h =
-      by_test (λ (r : HeadDelivered). OfDelivery s (heard s r))
+      by_test (λ (r : HeadAnswered Delivery). OfDelivery s (heard s r))
       (λ _. calm _ Accepted not_accepted
       (started_calm s _ record { stats = refl; window = refl; keeps = record { params = refl; play = refl } }))
       (λ _. plain_refusal _)
@@ -231,8 +229,8 @@ module _ (s : Session) (fit : Fit s.head.stats) (sender : ℕ) where
     taken = with_stats (marked s.head sender) (repeated_of s.head.stats a.repeated)
 
     -- a head beside the frames' window
-    abbrev beside : HeadDelivered → Delivered
-    beside r = delivered (session_of r.head a.window s.prints) r.answer
+    abbrev beside : HeadAnswered Delivery → Answered Delivery
+    beside r = session_with (session_of r.head a.window s.prints) r.answer
 
     unwritten_refusal : (x : Refusal) → a.wrote ≡ false → OfDelivery s (beside (refused taken x))
     unfolding marked
@@ -254,7 +252,7 @@ module _ (s : Session) (fit : Fit s.head.stats) (sender : ℕ) where
     noted_refusal : (x : Refusal) → OfDelivery s (beside (note_answer (refused taken x) a.wrote))
     unfolding note_answer
     noted_refusal x =
-        by_test (λ (r : HeadDelivered). OfDelivery s (beside r))
+        by_test (λ (r : HeadAnswered Delivery). OfDelivery s (beside r))
         (λ _. record {
           refused = λ y q. absurd (not_accepted y q);
           rises = refuse_rises x;
@@ -263,16 +261,16 @@ module _ (s : Session) (fit : Fit s.head.stats) (sender : ℕ) where
         })
         (unwritten_refusal x)
 
-    noted_of : (note : Note) → OfDelivery s (beside (noted taken note a.wrote))
+    noted_of : (note : Option Note) → OfDelivery s (beside (noted taken note a.wrote))
     unfolding noted marked
-    noted_of Note'.Nothing = record {
+    noted_of None = record {
       refused = λ x q. absurd (not_accepted x q);
       rises = repeated_rises s.head.stats a.repeated rises;
       window = window;
       keeps = record { params = refl; play = refl };
     }
-    noted_of (Note'.OutOfWindow tick pending) = noted_refusal _
-    noted_of (Note'.Contradiction peer tick) = noted_refusal _
+    noted_of (Some (Note'.OutOfWindow tick pending)) = noted_refusal _
+    noted_of (Some (Note'.Contradiction peer tick)) = noted_refusal _
 
   inputs_of_lem : (i : InputsBody) (run : List ℕ) → sender < seats → OfDelivery s (absorb seen sender i run)
   unfolding absorb frames_taken frames_noted marked
@@ -343,15 +341,15 @@ module _ (s : Session) (fit : Fit s.head.stats) (source : ℕ) (m : Message) (ru
       (λ _. by_test (OfDelivery s) (λ _. plain_refusal s fit _)
       (λ inside. accept_of s fit m.sender m.body run (roster_low s.head.params m.sender inside)))))
 
-  form_of_lem : (f : Form) → OfDelivery s (deliver_form s source m run f)
+  form_of_lem : (f : Result (Unit {0}) WireError) → OfDelivery s (deliver_form s source m run f)
   unfolding deliver_form
-  form_of_lem (Form'.Malformed e) = plain_refusal s fit _
-  form_of_lem Form'.Good = header_of
+  form_of_lem (Err e) = plain_refusal s fit _
+  form_of_lem (Ok good) = header_of
 
-  standing_of : (o : Standing) → OfDelivery s (deliver_by s source m run o)
+  standing_of : (o : Option Outcome) → OfDelivery s (deliver_by s source m run o)
   unfolding deliver_by
-  standing_of (Over o) = calm s (Ended o) (not-ended o) unmoved
-  standing_of Open = form_of_lem (form_of m run)
+  standing_of (Some o) = calm s (Ended o) (not-ended o) unmoved
+  standing_of None = form_of_lem (form_of m run)
 
   pub of_delivery : OfDelivery s (deliver s source m run)
   unfolding deliver

@@ -1,13 +1,11 @@
 -- Document 01, the order of a delivery's answers and what each changes: 20 first; then a standing outcome, 1, even for
 -- a malformed record, with nothing changed; then 21 to 31 in the table's order. Assumes nothing.
-use Rattle.std.specs.Prelude.{ℕ, Bool, not, List, eqb}
+use Rattle.std.specs.Prelude.{ℕ, Bool, not, List, Option, None, Some, Result, Ok, Err, eqb}
 use Rattle.logic.specs.Test.{when◌then◌else◌}
 use Rattle.peer.specs.Seats.{seats, has, adding}
 use Rattle.params.specs.Params.{bad_state, roster_of, remotes_of, agreement_of}
 use Rattle.wire.specs.Wire.{form_of}
-use Rattle.wire.specs.declared.Form.{Form}
-use Rattle.wire.specs.declared.Form.TheVariants.{Good}
-use Rattle.wire.specs.declared.Form.TheVariants as Form'
+use Rattle.wire.specs.declared.WireError.{WireError}
 use Rattle.wire.specs.declared.Body.{Body}
 use Rattle.wire.specs.declared.Body.TheVariants as Body'
 use Rattle.wire.specs.declared.HelloBody.{HelloBody}
@@ -23,42 +21,34 @@ use Rattle.fingerprint.specs.declared.Fingerprint.{Fingerprint}
 use Rattle.fingerprint.specs.declared.Arrival.{Arrival}
 use Rattle.fingerprint.specs.declared.Arrival.TheVariants.{New, Repeated, Contradicted}
 use Rattle.stats.specs.Stats.{counted_of, repeated_of}
-use Rattle.session.specs.Session.{session_of, with_head, with_marks, with_stats, started, ended}
+use Rattle.session.specs.Session.{session_of, with_head, HeadAnswered, head_with, session_with, with_marks, with_stats}
+use Rattle.session.specs.Session.{started, ended}
 use Rattle.session.specs.declared.Outcome.{Outcome}
 use Rattle.session.specs.declared.Outcome.TheVariants.{Desynced, PeerLeft}
-use Rattle.session.specs.declared.Standing.{Standing}
-use Rattle.session.specs.declared.Standing.TheVariants.{Open, Over}
 use Rattle.session.specs.declared.Head.{Head}
 use Rattle.session.specs.declared.Session.{Session}
+use Rattle.session.specs.declared.Answered.{Answered}
 use Rattle.deliver.specs.declared.Refusal.{Refusal}
 use Rattle.deliver.specs.declared.Refusal.TheVariants.{Malformed, WrongSession, SenderNotSource, FromSelf}
 use Rattle.deliver.specs.declared.Refusal.TheVariants.{NotInRoster, Disagreement, OutOfWindow, Contradiction}
 use Rattle.deliver.specs.declared.Refusal.TheVariants.{WrongWidth, DigestContradiction, NotSessionTraffic}
 use Rattle.deliver.specs.declared.Delivery.{Delivery}
 use Rattle.deliver.specs.declared.Delivery.TheVariants.{Accepted, Ended, BadState, Refused}
-use Rattle.deliver.specs.declared.Delivered.{Delivered}
-use Rattle.deliver.specs.declared.HeadDelivered.{HeadDelivered}
 use Rattle.deliver.specs.Numbers.{refusal_no}
 
-abbrev pub delivered : Session → Delivery → Delivered
-delivered s answer = record { session = s; answer = answer }
-
-abbrev pub answered : Head → Delivery → HeadDelivered
-answered h answer = record { head = h; answer = answer }
-
 -- nothing but the head changes
-abbrev pub heard : Session → HeadDelivered → Delivered
-heard s r = delivered (with_head s r.head) r.answer
+abbrev pub heard : Session → HeadAnswered Delivery → Answered Delivery
+heard s r = session_with (with_head s r.head) r.answer
 
 -- ---- what changes the head alone
 
 -- a refusal changes the counters alone
-unfoldable pub refused : Head → Refusal → HeadDelivered
-refused h r = answered (with_stats h (counted_of h.stats (refusal_no r))) (Refused r)
+unfoldable pub refused : Head → Refusal → HeadAnswered Delivery
+refused h r = head_with (with_stats h (counted_of h.stats (refusal_no r))) (Refused r)
 
 -- the delivery that ends a session answers with its outcome
-unfoldable pub end_with : Head → Outcome → HeadDelivered
-end_with h o = answered (ended h o) (Ended o)
+unfoldable pub end_with : Head → Outcome → HeadAnswered Delivery
+end_with h o = head_with (ended h o) (Ended o)
 
 -- the sender's Hello is in
 unfoldable pub greeted : Head → ℕ → Head
@@ -69,10 +59,10 @@ greeted h sender = with_marks h (record {
 })
 
 -- 26 another agreement number; else the sender's Hello is in
-unfoldable pub accept_hello : Head → ℕ → HelloBody → HeadDelivered
+unfoldable pub accept_hello : Head → ℕ → HelloBody → HeadAnswered Delivery
 accept_hello h sender b =
     when eqb b.agreement (agreement_of h.params)
-    then answered (started (greeted h sender)) Accepted
+    then head_with (started (greeted h sender)) Accepted
     else refused h (Disagreement b.agreement (agreement_of h.params))
 
 -- the sender's playing mark
@@ -85,30 +75,33 @@ marked h sender = with_marks h (record {
 
 -- only the last note counts: with nothing written it is the answer; otherwise the answer is 0 and the counters still
 -- rise
-unfoldable pub note_answer : HeadDelivered → Bool → HeadDelivered
-note_answer r wrote = when wrote then answered r.head Accepted else r
+unfoldable pub note_answer : HeadAnswered Delivery → Bool → HeadAnswered Delivery
+note_answer r wrote = when wrote then head_with r.head Accepted else r
 
-unfoldable pub noted : Head → Note → Bool → HeadDelivered
-noted h Note'.Nothing wrote = answered h Accepted
-noted h (Note'.OutOfWindow tick pending) wrote = note_answer (refused h (OutOfWindow tick pending)) wrote
-noted h (Note'.Contradiction peer tick) wrote = note_answer (refused h (Contradiction peer tick)) wrote
+abbrev pub refusal_of : Note → Refusal
+refusal_of (Note'.OutOfWindow tick pending) = OutOfWindow tick pending
+refusal_of (Note'.Contradiction peer tick) = Contradiction peer tick
 
-abbrev pub refuse : Session → Refusal → Delivered
+unfoldable pub noted : Head → Option Note → Bool → HeadAnswered Delivery
+noted h None wrote = head_with h Accepted
+noted h (Some note) wrote = note_answer (refused h (refusal_of note)) wrote
+
+abbrev pub refuse : Session → Refusal → Answered Delivery
 refuse s r = heard s (refused s.head r)
 
 -- ---- Inputs
 
 -- `frames_repeated` is as the frames left it, and the last note is answered
-unfoldable pub frames_noted : Head → (repeated : ℕ) → Note → Bool → HeadDelivered
+unfoldable pub frames_noted : Head → (repeated : ℕ) → Option Note → Bool → HeadAnswered Delivery
 frames_noted h repeated note wrote = noted (with_stats h (repeated_of h.stats repeated)) note wrote
 
-unfoldable pub frames_taken : Session → Absorbed → Delivered
+unfoldable pub frames_taken : Session → Absorbed → Answered Delivery
 frames_taken s a =
     let r = frames_noted s.head a.repeated a.note a.wrote in
-    delivered (session_of r.head a.window s.prints) r.answer
+    session_with (session_of r.head a.window s.prints) r.answer
 
 -- 29 comes before any frame
-unfoldable pub absorb : Session → ℕ → InputsBody → List ℕ → Delivered
+unfoldable pub absorb : Session → ℕ → InputsBody → List ℕ → Answered Delivery
 absorb s sender i run =
     when eqb i.width s.head.params.width
     then
@@ -122,30 +115,30 @@ abbrev pub print_of : DigestBody → Fingerprint
 print_of d = record { tick = d.tick; state = d.state; input = d.input }
 
 -- judged upon a newly stored Digest: a difference ends the session
-unfoldable pub judged : Session → ℕ → Delivered
+unfoldable pub judged : Session → ℕ → Answered Delivery
 judged s tick =
     when parted s.prints (remotes_of s.head.params) tick
     then heard s (end_with s.head (Desynced tick))
-    else delivered s Accepted
+    else session_with s Accepted
 
 abbrev pub with_print : Session → ℕ → Fingerprint → Session
 with_print s sender f = session_of s.head s.window (with_remote s.prints sender f)
 
 -- 30 the cell holds this tick with other values; an equal repeat is accepted unjudged; any other goes in its sender's
 -- cell
-unfoldable pub hear_by : Session → ℕ → DigestBody → Arrival → Delivered
+unfoldable pub hear_by : Session → ℕ → DigestBody → Arrival → Answered Delivery
 hear_by s sender d Contradicted = refuse s (DigestContradiction sender d.tick)
-hear_by s sender d Repeated = delivered s Accepted
+hear_by s sender d Repeated = session_with s Accepted
 hear_by s sender d New = judged (with_print s sender (print_of d)) d.tick
 
-unfoldable pub hear : Session → ℕ → DigestBody → Delivered
+unfoldable pub hear : Session → ℕ → DigestBody → Answered Delivery
 hear s sender d = hear_by s sender d (arrival s.prints sender (print_of d))
 
 -- ---- each kind
 
 -- Inputs and Digest set the sender's playing mark, also when they are then refused; a Bye ends the session; 31 the
 -- others
-unfoldable pub accept : Session → ℕ → Body → List ℕ → Delivered
+unfoldable pub accept : Session → ℕ → Body → List ℕ → Answered Delivery
 accept s sender (Body'.Hello b) run = heard s (accept_hello s.head sender b)
 accept s sender (Body'.Inputs i) run = absorb (with_head s (marked s.head sender)) sender i run
 accept s sender (Body'.Digest d) run = hear (with_head s (marked s.head sender)) sender d
@@ -155,7 +148,7 @@ accept s sender (Body'.Other kind) run = refuse s (NotSessionTraffic kind)
 -- ---- the header, and the order
 
 -- 22 to 25
-unfoldable pub from_header : Session → ℕ → Message → List ℕ → Delivered
+unfoldable pub from_header : Session → ℕ → Message → List ℕ → Answered Delivery
 from_header s source m run =
     when not (eqb m.session s.head.params.session) then refuse s (WrongSession m.session)
     else when not (eqb m.sender source) then refuse s (SenderNotSource m.sender source)
@@ -164,14 +157,14 @@ from_header s source m run =
     else accept s m.sender m.body run
 
 -- 21
-unfoldable pub deliver_form : Session → ℕ → Message → List ℕ → Form → Delivered
-deliver_form s source m run (Form'.Malformed e) = refuse s (Malformed e)
-deliver_form s source m run Form'.Good = from_header s source m run
+unfoldable pub deliver_form : Session → ℕ → Message → List ℕ → Result (Unit {0}) WireError → Answered Delivery
+deliver_form s source m run (Err e) = refuse s (Malformed e)
+deliver_form s source m run (Ok good) = from_header s source m run
 
-unfoldable pub deliver_by : Session → ℕ → Message → List ℕ → Standing → Delivered
-deliver_by s source m run (Over o) = delivered s (Ended o)
-deliver_by s source m run Open = deliver_form s source m run (form_of m run)
+unfoldable pub deliver_by : Session → ℕ → Message → List ℕ → Option Outcome → Answered Delivery
+deliver_by s source m run (Some o) = session_with s (Ended o)
+deliver_by s source m run None = deliver_form s source m run (form_of m run)
 
-unfoldable pub deliver : Session → ℕ → Message → List ℕ → Delivered
+unfoldable pub deliver : Session → ℕ → Message → List ℕ → Answered Delivery
 deliver s source m run =
-    when bad_state s.head.params then delivered s BadState else deliver_by s source m run s.head.outcome
+    when bad_state s.head.params then session_with s BadState else deliver_by s source m run s.head.outcome

@@ -1,26 +1,22 @@
 // A message comes in: the checks of its form and its header, then what its kind does to the session. Every refusal is
-// counted. The head goes by value and the arrays are lent; what a message of its kind cannot touch is not lent to it.
+// counted.
 #![tactic(auto)]
 
-ghost use Rattle.std.specs.Prelude.{◌≡◌};
-ghost use Rattle.window.specs.Window.{window_of};
-ghost use Rattle.window.specs.declared.Window as Window';
-ghost use Rattle.fingerprint.specs.Cells.{prints_of};
-ghost use Rattle.fingerprint.specs.declared.Fingerprints as Fingerprints';
-ghost use Rattle.session.specs.Session.{session_of};
+ghost use Rattle.std.specs.Prelude.{◌≡◌, Option};
+ghost use Rattle.session.specs.Session.{head_with, session_with};
 ghost use Rattle.deliver.specs.Numbers.{refusal_no, delivery_no};
-ghost use Rattle.deliver.specs.declared.Delivery.TheVariants.{Accepted};
-ghost use Rattle.deliver.specs.Deliver.{delivered, answered, refused, end_with, accept_hello, marked, note_answer};
-ghost use Rattle.deliver.specs.Deliver.{noted, absorb, judged, hear, accept, from_header, deliver};
+ghost use Rattle.deliver.specs.Deliver.{refused, end_with, accept_hello, marked, refusal_of, noted};
+ghost use Rattle.deliver.specs.Deliver.{absorb, judged, hear, accept, from_header, deliver};
 
-use fingerprint::{Arrival, Fingerprint, Fingerprints};
+use fingerprint::{Arrival, Fingerprint};
+use logic::Numbered;
 use peer::PeerSet;
-use session::{Head, Marks, Outcome, Session, Standing};
-use window::{Note, Window};
-use wire::{Body, DigestBody, Form, HelloBody, InputsBody, Message, WireError};
+use session::{Answered, Head, Outcome, Session};
+use window::Note;
+use wire::{Body, DigestBody, HelloBody, InputsBody, Message, WireError};
 
 // Why a message was refused, with what was seen.
-#[derive(Clone, Copy)]
+#[derive(Clone, Copy, PartialEq, Eq, Debug)]
 pub enum Refusal {
     Malformed(WireError),
     WrongSession { saw: u64 },
@@ -35,7 +31,8 @@ pub enum Refusal {
     NotSessionTraffic { kind: u8 },
 }
 
-#[derive(Clone, Copy)]
+// Four answers of its own, as in the published Rust but for BadState.
+#[derive(Clone, Copy, PartialEq, Eq, Debug)]
 pub enum Delivery {
     Accepted,
     Ended(Outcome),
@@ -43,357 +40,203 @@ pub enum Delivery {
     Refused(Refusal),
 }
 
-#[derive(Clone, Copy)]
-pub struct Delivered {
-    pub session: Session,
-    pub answer: Delivery,
-}
+impl Numbered for Refusal {
+    ghost number_of = { refusal_no };
 
-#[derive(Clone, Copy)]
-pub struct HeadDelivered {
-    pub head: Head,
-    pub answer: Delivery,
-}
-
-impl Refusal {
-    // Document 01's number.
-    pub fn number(self) -> u8
-        ensures { result ≡ refusal_no self }
-    {
+    fn number(self) -> u8 {
         match self {
             Refusal::Malformed(_) => 21,
-            Refusal::WrongSession { saw: _ } => 22,
-            Refusal::SenderNotSource {
-                claimed: _,
-                source: _,
-            } => 23,
+            Refusal::WrongSession { .. } => 22,
+            Refusal::SenderNotSource { .. } => 23,
             Refusal::FromSelf => 24,
-            Refusal::NotInRoster { peer: _ } => 25,
-            Refusal::Disagreement { theirs: _, ours: _ } => 26,
-            Refusal::OutOfWindow {
-                tick: _,
-                pending: _,
-            } => 27,
-            Refusal::Contradiction { peer: _, tick: _ } => 28,
-            Refusal::WrongWidth { saw: _, agreed: _ } => 29,
-            Refusal::DigestContradiction { peer: _, tick: _ } => 30,
-            Refusal::NotSessionTraffic { kind: _ } => 31,
+            Refusal::NotInRoster { .. } => 25,
+            Refusal::Disagreement { .. } => 26,
+            Refusal::OutOfWindow { .. } => 27,
+            Refusal::Contradiction { .. } => 28,
+            Refusal::WrongWidth { .. } => 29,
+            Refusal::DigestContradiction { .. } => 30,
+            Refusal::NotSessionTraffic { .. } => 31,
         }
     }
 }
 
-impl Delivery {
-    // Document 01's number.
-    pub fn number(self) -> u8
-        ensures { result ≡ delivery_no self }
-    {
+impl Numbered for Delivery {
+    ghost number_of = { delivery_no };
+
+    fn number(self) -> u8 {
         match self {
             Delivery::Accepted => 0,
-            Delivery::Ended(_) => 1,
+            Delivery::Ended(outcome) => outcome.number(),
             Delivery::BadState => 20,
             Delivery::Refused(refusal) => refusal.number(),
         }
     }
 }
 
-// ---- what changes the head alone
+impl From<Note> for Refusal {
+    ghost from_gives = { λ note r. r ≡ refusal_of note };
 
-// The counters of a refusal go through the one function that is lent them for change (`stats::record_refusal`, by
-// `stats::refused`).
-fn refuse(mut h: Head, refusal: Refusal) -> HeadDelivered
-    ensures { result ≡ refused h refusal }
-{
-    h.stats = stats::refused(h.stats, refusal.number());
-    HeadDelivered {
-        head: h,
-        answer: Delivery::Refused(refusal),
+    fn from(note: Note) -> Refusal {
+        match note {
+            Note::OutOfWindow { tick, pending } => Refusal::OutOfWindow { tick, pending },
+            Note::Contradiction { peer, tick } => Refusal::Contradiction { peer, tick },
+        }
     }
 }
 
-fn accepted(h: Head) -> HeadDelivered
-    ensures { result ≡ answered h Accepted }
+// ---- what changes the head alone
+
+// The counters of a refusal go through the one function that is lent them for change (document 01).
+#[tactic(auto, unfolding(crate::specs::Deliver::refused))]
+fn refuse(head: &mut Head, refusal: Refusal) -> Delivery
+    ensures { head_with head.new result ≡ refused head.old refusal }
 {
-    HeadDelivered {
-        head: h,
-        answer: Delivery::Accepted,
-    }
+    stats::record_refusal(&mut head.stats, refusal.number());
+    Delivery::Refused(refusal)
 }
 
 // The delivery that ends a session answers with its outcome.
-fn end(h: Head, outcome: Outcome) -> HeadDelivered
-    ensures { result ≡ end_with h outcome }
+#[tactic(auto, unfolding(crate::specs::Deliver::end_with, session::specs::Session::ended))]
+fn end(head: &mut Head, outcome: Outcome) -> Delivery
+    ensures { head_with head.new result ≡ end_with head.old outcome }
 {
-    let was = h.outcome;
-    let ended = Head {
-        outcome: session::outcome_after(was, outcome),
-        ..h
-    };
-    HeadDelivered {
-        head: ended,
-        answer: Delivery::Ended(outcome),
-    }
+    head.outcome = session::outcome_after(head.outcome, outcome);
+    Delivery::Ended(outcome)
 }
 
-fn accept_hello(mut h: Head, sender: u8, hello: HelloBody) -> HeadDelivered
-    ensures { result ≡ accept_hello h sender hello }
+fn accept_hello(head: &mut Head, sender: u8, hello: HelloBody) -> Delivery
+    ensures { head_with head.new result ≡ accept_hello head.old sender hello }
 {
-    let ours = h.params.agreement();
+    let ours = head.params.agreement();
     if hello.agreement != ours {
         return refuse(
-            h,
+            head,
             Refusal::Disagreement {
                 theirs: hello.agreement,
-                ours: ours,
+                ours,
             },
         );
     }
-    let hellos = PeerSet(h.marks.hellos).with(sender).bits();
-    h.marks.hellos = hellos;
-    if session::starts(h.params, hellos, h.play.next_local) {
-        h.marks.started = true;
-        return accepted(h);
+    head.marks.hellos = PeerSet(head.marks.hellos).with(sender).bits();
+    if session::starts(head.params, head.marks.hellos, head.play.next_local) {
+        head.marks.started = true;
     }
-    accepted(h)
+    Delivery::Accepted
 }
 
-fn mark_playing(mut h: Head, sender: u8) -> Head
-    ensures { result ≡ marked h sender }
+#[tactic(auto, unfolding(crate::specs::Deliver::marked))]
+fn mark_playing(head: &mut Head, sender: u8)
+    ensures { head.new ≡ marked head.old sender }
 {
-    let playing = PeerSet(h.marks.playing).with(sender).bits();
-    h.marks.playing = playing;
-    h
+    head.marks.playing = PeerSet(head.marks.playing).with(sender).bits();
 }
 
-// Otherwise than with nothing written, a note's refusal raises the counters and is not the answer.
-fn note_answer(refused: HeadDelivered, wrote: bool) -> HeadDelivered
-    ensures { result ≡ note_answer refused wrote }
+// A note's refusal raises the counters; it is the answer only where nothing was written.
+fn answer_note(head: &mut Head, note: Option<Note>, wrote: bool) -> Delivery
+    ensures { head_with head.new result ≡ noted head.old note wrote }
 {
-    if wrote {
-        let head = refused.head;
-        return accepted(head);
-    }
-    refused
-}
-
-fn answer_note(h: Head, note: Note, wrote: bool) -> HeadDelivered
-    ensures { result ≡ noted h note wrote }
-{
-    match note {
-        Note::Nothing => accepted(h),
-        Note::OutOfWindow { tick, pending } => {
-            note_answer(
-                refuse(
-                    h,
-                    Refusal::OutOfWindow {
-                        tick: tick,
-                        pending: pending,
-                    },
-                ),
-                wrote,
-            )
-        }
-        Note::Contradiction { peer, tick } => {
-            note_answer(
-                refuse(
-                    h,
-                    Refusal::Contradiction {
-                        peer: peer,
-                        tick: tick,
-                    },
-                ),
-                wrote,
-            )
-        }
-    }
+    let Some(note) = note else {
+        return Delivery::Accepted;
+    };
+    let refused = refuse(head, Refusal::from(note));
+    if wrote { Delivery::Accepted } else { refused }
 }
 
 // ---- what changes the window, or the prints
 
-fn absorb_inputs(
-    mut h: Head,
-    ring: &mut [u8; window::RING],
-    ticks: &mut [u64; window::SLOTS],
-    present: &mut [peer::Bits; window::SLOTS],
-    sender: u8,
-    body: InputsBody,
-    run: &[u8],
-) -> HeadDelivered
-    ensures { (p : Fingerprints'.Fingerprints) →
-        delivered
-        (session_of result.head (window_of ring.new ticks.new present.new) p) result.answer
-        ≡ absorb (session_of h (window_of ring.old ticks.old present.old) p)
-        sender body run.now }
+fn absorb_inputs(s: &mut Session, sender: u8, body: InputsBody, run: &[u8]) -> Delivery
+    ensures { session_with s.new result ≡ absorb s.old sender body run.now }
 {
-    let agreed = h.params.width;
+    let agreed = s.head.params.width;
     if body.width != agreed {
         return refuse(
-            h,
+            &mut s.head,
             Refusal::WrongWidth {
                 saw: body.width,
-                agreed: agreed,
+                agreed,
             },
         );
     }
-    let taken = window::absorb_inputs(
-        ring,
-        ticks,
-        present,
-        h.stats.frames_repeated,
-        h.play.pending,
+    let taken = s.window.absorb_inputs(
+        s.head.stats.frames_repeated,
+        s.head.play.pending,
         sender,
         body,
         run,
     );
-    let note = taken.note;
-    h.stats.frames_repeated = taken.repeated;
-    answer_note(h, note, taken.wrote)
+    s.head.stats.frames_repeated = taken.repeated;
+    answer_note(&mut s.head, taken.note, taken.wrote)
 }
 
-fn absorb_digest(
-    h: Head,
-    held: &mut [bool; fingerprint::CELLS],
-    printed: &mut [u64; fingerprint::CELLS],
-    states: &mut [u64; fingerprint::CELLS],
-    inputs: &mut [u64; fingerprint::CELLS],
-    sender: u8,
-    digest: DigestBody,
-) -> HeadDelivered
-    ensures { (w : Window'.Window) →
-        delivered
-        (session_of result.head w
-        (prints_of held.new printed.new states.new inputs.new))
-        result.answer
-        ≡ hear
-        (session_of h w
-        (prints_of held.old printed.old states.old inputs.old))
-        sender digest }
+#[tactic(auto, unfolding(crate::specs::Deliver::hear, crate::specs::Deliver::hear_by))]
+fn absorb_digest(s: &mut Session, sender: u8, digest: DigestBody) -> Delivery
+    ensures { session_with s.new result ≡ hear s.old sender digest }
 {
     let tick = digest.tick;
     let print = Fingerprint {
-        tick: tick,
+        tick,
         state: digest.state,
         input: digest.input,
     };
-    let arrival = fingerprint::arrival_of(held, printed, states, inputs, sender, print);
-    match arrival {
-        Arrival::Contradicted => refuse(
-            h,
-            Refusal::DigestContradiction {
-                peer: sender,
-                tick: tick,
-            },
-        ),
-        Arrival::Repeated => accepted(h),
+    match s.prints.arrival_of(sender, print) {
+        Arrival::Contradicted => {
+            refuse(
+                &mut s.head,
+                Refusal::DigestContradiction { peer: sender, tick },
+            )
+        }
+        Arrival::Repeated => Delivery::Accepted,
         Arrival::New => {
-            fingerprint::store_remote(held, printed, states, inputs, sender, print);
-            judge(h, held, printed, states, inputs, tick)
+            s.prints.store_remote(sender, print);
+            judge(s, tick)
         }
     }
 }
 
-fn judge(
-    h: Head,
-    held: &[bool; fingerprint::CELLS],
-    printed: &[u64; fingerprint::CELLS],
-    states: &[u64; fingerprint::CELLS],
-    inputs: &[u64; fingerprint::CELLS],
-    tick: u64,
-) -> HeadDelivered
-    ensures { (w : Window'.Window) →
-        delivered
-        (session_of result.head w
-        (prints_of held.now printed.now states.now inputs.now))
-        result.answer
-        ≡ judged
-        (session_of h w
-        (prints_of held.now printed.now states.now inputs.now))
-        tick }
+fn judge(s: &mut Session, tick: u64) -> Delivery
+    ensures { session_with s.new result ≡ judged s.old tick }
 {
-    if fingerprint::parted(held, printed, states, inputs, h.params.remotes(), tick) {
-        return end(h, Outcome::Desynced { tick: tick });
+    if s.prints.parted(s.head.params.remotes(), tick) {
+        return end(&mut s.head, Outcome::Desynced { tick });
     }
-    accepted(h)
+    Delivery::Accepted
 }
 
 // ---- each kind, the header, and the order
 
-fn accept(
-    h: Head,
-    ring: &mut [u8; window::RING],
-    ticks: &mut [u64; window::SLOTS],
-    present: &mut [peer::Bits; window::SLOTS],
-    held: &mut [bool; fingerprint::CELLS],
-    printed: &mut [u64; fingerprint::CELLS],
-    states: &mut [u64; fingerprint::CELLS],
-    inputs: &mut [u64; fingerprint::CELLS],
-    sender: u8,
-    body: Body,
-    run: &[u8],
-) -> HeadDelivered
-    ensures { delivered
-        (session_of result.head (window_of ring.new ticks.new present.new)
-        (prints_of held.new printed.new states.new inputs.new))
-        result.answer
-        ≡ accept (session_of h (window_of ring.old ticks.old present.old)
-        (prints_of held.old printed.old states.old inputs.old))
-        sender body run.now }
+#[tactic(auto, unfolding(crate::specs::Deliver::accept))]
+fn accept(s: &mut Session, sender: u8, body: Body, run: &[u8]) -> Delivery
+    ensures { session_with s.new result ≡ accept s.old sender body run.now }
 {
     match body {
-        Body::Hello(hello) => accept_hello(h, sender, hello),
-        Body::Inputs(body) => absorb_inputs(
-            mark_playing(h, sender),
-            ring,
-            ticks,
-            present,
-            sender,
-            body,
-            run,
-        ),
-        Body::Digest(digest) => absorb_digest(
-            mark_playing(h, sender),
-            held,
-            printed,
-            states,
-            inputs,
-            sender,
-            digest,
-        ),
+        Body::Hello(hello) => accept_hello(&mut s.head, sender, hello),
+        Body::Inputs(inputs) => {
+            mark_playing(&mut s.head, sender);
+            absorb_inputs(s, sender, inputs, run)
+        }
+        Body::Digest(digest) => {
+            mark_playing(&mut s.head, sender);
+            absorb_digest(s, sender, digest)
+        }
         Body::Bye(bye) => end(
-            h,
+            &mut s.head,
             Outcome::PeerLeft {
                 peer: sender,
                 tick: bye.tick,
             },
         ),
-        Body::Other(kind) => refuse(h, Refusal::NotSessionTraffic { kind: kind }),
+        Body::Other(kind) => refuse(&mut s.head, Refusal::NotSessionTraffic { kind }),
     }
 }
 
-fn from_header(
-    h: Head,
-    ring: &mut [u8; window::RING],
-    ticks: &mut [u64; window::SLOTS],
-    present: &mut [peer::Bits; window::SLOTS],
-    held: &mut [bool; fingerprint::CELLS],
-    printed: &mut [u64; fingerprint::CELLS],
-    states: &mut [u64; fingerprint::CELLS],
-    inputs: &mut [u64; fingerprint::CELLS],
-    source: u8,
-    message: Message,
-    run: &[u8],
-) -> HeadDelivered
-    ensures { delivered
-        (session_of result.head (window_of ring.new ticks.new present.new)
-        (prints_of held.new printed.new states.new inputs.new))
-        result.answer
-        ≡ from_header (session_of h (window_of ring.old ticks.old present.old)
-        (prints_of held.old printed.old states.old inputs.old))
-        source message run.now }
+fn from_header(s: &mut Session, source: u8, message: Message, run: &[u8]) -> Delivery
+    ensures { session_with s.new result ≡ from_header s.old source message run.now }
 {
     let sender = message.sender;
-    if message.session != h.params.session {
+    let params = &s.head.params;
+    if message.session != params.session {
         return refuse(
-            h,
+            &mut s.head,
             Refusal::WrongSession {
                 saw: message.session,
             },
@@ -401,115 +244,42 @@ fn from_header(
     }
     if sender != source {
         return refuse(
-            h,
+            &mut s.head,
             Refusal::SenderNotSource {
                 claimed: sender,
-                source: source,
+                source,
             },
         );
     }
-    if sender == h.params.local {
-        return refuse(h, Refusal::FromSelf);
+    if sender == params.local {
+        return refuse(&mut s.head, Refusal::FromSelf);
     }
-    if !h.params.roster().contains(sender) {
-        return refuse(h, Refusal::NotInRoster { peer: sender });
+    if !params.roster().contains(sender) {
+        return refuse(&mut s.head, Refusal::NotInRoster { peer: sender });
     }
-    let body = message.body;
-    accept(
-        h, ring, ticks, present, held, printed, states, inputs, sender, body, run,
-    )
+    accept(s, sender, message.body, run)
 }
 
 // A message that came in from the seat that the radio names as its source.
-pub fn deliver_in(
-    h: Head,
-    ring: &mut [u8; window::RING],
-    ticks: &mut [u64; window::SLOTS],
-    present: &mut [peer::Bits; window::SLOTS],
-    held: &mut [bool; fingerprint::CELLS],
-    printed: &mut [u64; fingerprint::CELLS],
-    states: &mut [u64; fingerprint::CELLS],
-    inputs: &mut [u64; fingerprint::CELLS],
-    source: u8,
-    message: Message,
-    run: &[u8],
-) -> HeadDelivered
-    ensures { delivered
-        (session_of result.head (window_of ring.new ticks.new present.new)
-        (prints_of held.new printed.new states.new inputs.new))
-        result.answer
-        ≡ deliver (session_of h (window_of ring.old ticks.old present.old)
-        (prints_of held.old printed.old states.old inputs.old))
-        source message run.now }
+pub fn deliver_in(s: &mut Session, source: u8, message: Message, run: &[u8]) -> Delivery
+    ensures { session_with s.new result ≡ deliver s.old source message run.now }
 {
-    if h.params.bad_state() {
-        return HeadDelivered {
-            head: h,
-            answer: Delivery::BadState,
-        };
+    if s.head.params.bad_state() {
+        return Delivery::BadState;
     }
-    let standing = h.outcome;
-    if let Standing::Over(outcome) = standing {
-        return HeadDelivered {
-            head: h,
-            answer: Delivery::Ended(outcome),
-        };
+    if let Some(outcome) = s.head.outcome {
+        return Delivery::Ended(outcome);
     }
-    let form = message.form(run);
-    if let Form::Malformed(error) = form {
-        return refuse(h, Refusal::Malformed(error));
+    if let Err(error) = message.form(run) {
+        return refuse(&mut s.head, Refusal::Malformed(error));
     }
-    from_header(
-        h, ring, ticks, present, held, printed, states, inputs, source, message, run,
-    )
+    from_header(s, source, message, run)
 }
 
 // The same by value.
-pub fn deliver(s: Session, source: u8, message: Message, run: &[u8]) -> Delivered
+pub fn deliver(mut s: Session, source: u8, message: Message, run: &[u8]) -> Answered<Delivery>
     ensures { result ≡ deliver s source message run.now }
 {
-    let window = s.window;
-    let mut ring = window.ring;
-    let mut ticks = window.ticks;
-    let mut present = window.present;
-    let prints = s.prints;
-    let mut held = prints.held;
-    let mut printed = prints.ticks;
-    let mut states = prints.states;
-    let mut inputs = prints.inputs;
-    let done = deliver_in(
-        s.head,
-        &mut ring,
-        &mut ticks,
-        &mut present,
-        &mut held,
-        &mut printed,
-        &mut states,
-        &mut inputs,
-        source,
-        message,
-        run,
-    );
-    let head = done.head;
-    let answer = done.answer;
-    let window = Window {
-        ring: ring,
-        ticks: ticks,
-        present: present,
-    };
-    let prints = Fingerprints {
-        held: held,
-        ticks: printed,
-        states: states,
-        inputs: inputs,
-    };
-    let session = Session {
-        head: head,
-        window: window,
-        prints: prints,
-    };
-    Delivered {
-        session: session,
-        answer: answer,
-    }
+    let answer = deliver_in(&mut s, source, message, run);
+    Answered { session: s, answer }
 }

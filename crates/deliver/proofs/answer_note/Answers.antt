@@ -1,15 +1,16 @@
 -- `deliver::answer_note` meets its contract. Assumes nothing.
-use Rattle.deliver.specs.Deliver.{noted}
+use Rattle.logic.specs.Test.{when◌then◌else◌}
+use Rattle.deliver.specs.Deliver.{noted, note_answer}
 use Rattle.deliver.proofs.answer_note.Goals as goal
 
-pub returns-in-Nothing : goal.returns-in-Nothing
+pub returns-in_default : goal.returns-in_default
 unfolding noted
-returns-in-Nothing c = rw c.in-Nothing.is c.accepted.ensures
+returns-in_default c = rw (c.in_default.is)
 
-pub returns-in-OutOfWindow : goal.returns-in-OutOfWindow
-unfolding noted
-returns-in-OutOfWindow c = rw (c.in-OutOfWindow.is, c.note_answer.ensures, c.refuse.ensures)
+pub returns-then-wrote : goal.returns-then-wrote
+unfolding noted note_answer when◌then◌else◌
+returns-then-wrote c = rw (c.in-Some.is, ← c.from.ensures, ← c.refuse-refused.ensures, c.if-wrote.true)
 
-pub returns-in-Contradiction : goal.returns-in-Contradiction
-unfolding noted
-returns-in-Contradiction c = rw (c.in-Contradiction.is, c.note_answer-in-Contradiction.ensures, c.refuse-in-Contradiction.ensures)
+pub returns-else-wrote : goal.returns-else-wrote
+unfolding noted note_answer when◌then◌else◌
+returns-else-wrote c = rw (c.in-Some.is, ← c.from.ensures, ← c.refuse-refused.ensures, c.if-wrote.false)

@@ -5,10 +5,8 @@ use Rattle.deliver.proofs.judge.Goals as goal
 
 pub returns-then-parted : goal.returns-then-parted
 unfolding judged when◌then◌else◌
-returns-then-parted c = λ w.
-    rw (← c.remotes.ensures, ← c.parted.ensures, c.if-parted.true, c.end.ensures)
+returns-then-parted c = rw (← c.remotes.ensures, ← c.parted.ensures, c.if-parted.true, ← c.end.ensures)
 
 pub returns : goal.returns
 unfolding judged when◌then◌else◌
-returns c = λ w.
-    rw (← c.remotes.ensures, ← c.parted.ensures, c.if-parted.false, c.accepted.ensures)
+returns c = rw (← c.remotes.ensures, ← c.parted.ensures, c.if-parted.false)
