@@ -86,19 +86,14 @@ unfolding ahead readiness
 ahead-most h w = front_most window _
 
 -- the first n are, and the next is not, or there is none
-module _ (h : Head) (w : Window) (pending n : ℕ) (at : h.play.pending ≡ pending)
-    (all : (k : ℕ) → k < n → is_ready h w (pending + k) ≡ true) where
+module _ (h : Head) (w : Window) (n : ℕ) (all : (k : ℕ) → k < n → is_ready h w (h.play.pending + k) ≡ true) where
   abbrev asked : ℕ → Bool
   asked k = is_ready h w (h.play.pending + k)
 
-  -- from pending, by whatever name it goes
-  from : (k : ℕ) → asked k ≡ is_ready h w (pending + k)
-  from k = ap (λ (p : ℕ). is_ready h w (p + k)) at
-
-  pub ahead_stops : n ≤ window → is_ready h w (pending + n) ≡ false → ahead h w ≡ n
+  pub ahead_stops : n ≤ window → is_ready h w (h.play.pending + n) ≡ false → ahead h w ≡ n
   unfolding ahead readiness
-  ahead_stops l gap = front_stops window n asked (λ k m. from k ∙ all k m) l (from n ∙ gap)
+  ahead_stops l gap = front_stops window n asked all l gap
 
   pub ahead_full : window ≤ n → ahead h w ≡ window
   unfolding ahead readiness
-  ahead_full l = front_all window asked (λ k m. from k ∙ all k (omega arith))
+  ahead_full l = front_all window asked (λ k m. all k (omega arith))

@@ -1,2 +1,3 @@
 pub mod Front
+mod Numbers
 mod Examples

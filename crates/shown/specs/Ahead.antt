@@ -1,19 +1,18 @@
 -- Document 02, K1: how many ticks from pending upward have every seat's frame, 0 to 64, an outstanding step included.
 -- The meaning looks at all 64 ticks and takes the full run at the front. A tick above 2^64-1 is a gap. 20 comes first.
 -- Assumes nothing.
-use Rattle.std.specs.Prelude.{ℕ, suc, ◌+◌, Bool, true, false, ◌&&◌, List, [], ◌∷◌, leb}
+use Rattle.std.specs.Prelude.{ℕ, suc, ◌+◌, Bool, true, false, ◌&&◌, List, [], ◌∷◌, Result, Ok, Err, leb}
 use Rattle.logic.specs.Test.{when◌then◌else◌}
 use Rattle.logic.specs.Saturating.{most}
 use Rattle.logic.specs.Tabulate.{tabulate}
 use Rattle.peer.specs.Cells.{window}
 use Rattle.params.specs.Params.{bad_state}
+use Rattle.params.specs.declared.BadState.{BadState}
 use Rattle.window.specs.Window.{held_by}
 use Rattle.window.specs.declared.Window.{Window}
 use Rattle.session.specs.Session.{every_seat}
 use Rattle.session.specs.declared.Head.{Head}
 use Rattle.session.specs.declared.Session.{Session}
-use Rattle.shown.specs.declared.Ready.{Ready}
-use Rattle.shown.specs.declared.Ready.TheVariants.{Ticks, BadState}
 
 -- whether every seat of the roster has its frame for a tick, as `advance` asks it; a tick above 2^64-1 is a gap
 unfoldable pub is_ready : Head → Window → ℕ → Bool
@@ -34,9 +33,9 @@ unfoldable pub ahead : Head → Window → ℕ
 ahead h w = front_run (readiness h w)
 
 -- 20 first, for a record whose parameters fail
-unfoldable pub ready_ticks : Session → Ready
-ready_ticks s = when bad_state s.head.params then BadState else Ticks (ahead s.head s.window)
+unfoldable pub ready_ticks : Session → Result ℕ BadState
+ready_ticks s = when bad_state s.head.params then Err (record {}) else Ok (ahead s.head s.window)
 
-abbrev pub ready_no : Ready → ℕ
-ready_no (Ticks n) = 0
-ready_no BadState = 20
+abbrev pub ready_no : Result ℕ BadState → ℕ
+ready_no (Ok n) = 0
+ready_no (Err bad) = 20
