@@ -5,6 +5,7 @@ use mathlib.Core.Path.{◌≡◌, refl}
 use mathlib.Core.Bool.{Bool, true, false}
 use mathlib.Core.List.{List, [], ◌∷◌}
 use lib.ListN.{replicate}
+use Rattle.std.specs.Prelude.{Option, None, Some}
 use Rattle.logic.specs.Saturating.{most}
 use Rattle.params.specs.declared.SessionParams.{SessionParams}
 use Rattle.wire.specs.declared.Body.{Body}
@@ -12,13 +13,10 @@ use Rattle.wire.specs.declared.Body.TheVariants as Body'
 use Rattle.window.specs.Window.{fresh_window, write_frame}
 use Rattle.window.specs.declared.Window.{Window}
 use Rattle.fingerprint.specs.Cells.{no_prints}
-use Rattle.fingerprint.specs.declared.Cell.TheVariants.{Holds}
 use Rattle.stats.specs.Stats.{no_stats}
 use Rattle.session.specs.Session.{session_of}
 use Rattle.session.specs.declared.Outcome.TheVariants.{PeerLeft}
-use Rattle.session.specs.declared.Standing.{Standing}
-use Rattle.session.specs.declared.Standing.TheVariants.{Open, Over}
-use Rattle.session.specs.declared.Outstanding.TheVariants.{Free}
+use Rattle.session.specs.declared.Outcome.{Outcome}
 use Rattle.session.specs.declared.Emit.TheVariants.{Hello}
 use Rattle.session.specs.declared.Session.{Session}
 use Rattle.pump.specs.declared.Outbound.{Outbound}
@@ -59,20 +57,20 @@ seated count local = record {
   session = 9;
 }
 
-at : SessionParams → Window → (pending next seen : ℕ) → Bool → Standing → Session
+at : SessionParams → Window → (pending next seen : ℕ) → Bool → Option Outcome → Session
 at p w pending next seen playing outcome = session_of (record {
   params = p;
-  play = record { pending = pending; next_local = next; digest = 0; step = Free; stalled = most };
+  play = record { pending = pending; next_local = next; digest = 0; step = None; stalled = most };
   marks = record { hellos = 1; playing = seen; started = playing };
   pass = record { kind = Hello; place = 0 };
-  owed = Holds (record { tick = 0; state = 5; input = 0 });
+  owed = Some (record { tick = 0; state = 5; input = 0 });
   outcome = outcome;
   stats = no_stats;
 }) w no_prints
 
 -- case R: seat 1 has left, tick 0 is played, and the pump was not used before
 case_r : Session
-case_r = at (seated 2 0) fresh_window 1 1 2 false (Over (PeerLeft 1 0))
+case_r = at (seated 2 0) fresh_window 1 1 2 false (Some (PeerLeft 1 0))
 
 pumps_of_r : lines 3 case_r ≡ (1 ∷ 3 ∷ 0 ∷ 0 ∷ []) ∷ (71 ∷ []) ∷ (1 ∷ 6 ∷ 0 ∷ 0 ∷ []) ∷ []
 unfolding pumping said line lines seated at case_r
@@ -83,7 +81,7 @@ pressed : Window
 pressed = write_frame (write_frame (write_frame fresh_window 1 0 (0x41 ∷ [])) 1 1 (0x42 ∷ [])) 1 2 (0x43 ∷ [])
 
 playing_on : Window → Session
-playing_on w = at (seated 3 1) w 1 3 1 true Open
+playing_on w = at (seated 3 1) w 1 3 1 true None
 
 whole_pass : lines 7 (playing_on pressed)
     ≡ (0 ∷ 3 ∷ 0 ∷ 0 ∷ []) ∷ (2 ∷ 3 ∷ 0 ∷ 0 ∷ []) ∷ (0 ∷ 4 ∷ 0 ∷ 3 ∷ []) ∷ (2 ∷ 4 ∷ 0 ∷ 3 ∷ []) ∷ (0 ∷ 5 ∷ 0 ∷ 0 ∷ [])

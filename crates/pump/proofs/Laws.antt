@@ -7,6 +7,7 @@ use mathlib.Core.Bool.{Bool, true, false, and-false, true≢false}
 use native.Mathlib.Omega.{arith}
 use lib.Dec.{ltb}
 use borrow.Author.Tests.{eq-eqb}
+use Rattle.std.specs.Prelude.{Option, None, Some}
 use Rattle.logic.proofs.Cases.{by_test, decide, case_eq, case_lt, if_true, if_false}
 use Rattle.peer.specs.Seats.{seats, bit, has}
 use Rattle.params.specs.Params.{bad_state, remotes_of}
@@ -20,19 +21,12 @@ use Rattle.session.specs.declared.Emit.{Emit}
 use Rattle.session.specs.declared.Emit.TheVariants.{Hello, Inputs, Digest, Bye, Done}
 use Rattle.session.specs.declared.Head.{Head}
 use Rattle.session.specs.declared.Session.{Session}
-use Rattle.pump.specs.declared.Target.{Target}
-use Rattle.pump.specs.declared.Target.TheVariants.{Nobody, Seat}
-use Rattle.pump.specs.declared.Saying.{Saying}
-use Rattle.pump.specs.declared.Saying.TheVariants.{Silent, Says}
-use Rattle.pump.specs.declared.Say.{Say}
-use Rattle.pump.specs.declared.Say.TheVariants.{No, To}
 use Rattle.pump.specs.declared.Outbound.TheVariants.{Send, BadState}
-use Rattle.pump.specs.declared.HeadPumped.{HeadPumped}
 use Rattle.pump.specs.declared.Pumped.{Pumped}
 use Rattle.pump.specs.Numbers.{outbound_no}
 use Rattle.pump.specs.Pump.{next_remote, target_of, saying, addressed, say_to, say, quiet, pass_ends}
 use Rattle.pump.specs.Pump.{send, sent, pump_digest, pump_inputs, pump_hello, pump_bye, pump_from, pump_head}
-use Rattle.pump.specs.Pump.{pumped, pump}
+use Rattle.pump.specs.Pump.{HeadPumped, pumped, pump}
 
 -- ---- the seats that are left
 
@@ -67,13 +61,13 @@ record Found (remotes place n k : ℕ) : Type 0 where
   in_set : has remotes k ≡ true
   falls : remaining remotes (k + 1) (place + n - (k + 1)) < remaining remotes place n
 
-found : (remotes place n k : ℕ) → next_remote remotes place n ≡ Seat k → Found remotes place n k
+found : (remotes place n k : ℕ) → next_remote remotes place n ≡ Some k → Found remotes place n k
 unfolding next_remote remaining
 found remotes place zero k e = let z : ◌≡◌ {A = ℕ} 0 1 = cc in absurd (omega arith)
 found remotes place (suc n) k e =
     decide (has remotes place)
     (λ t.
-    let q : place ≡ k = cc (sym (if_true (Seat place) (next_remote remotes (place + 1) n) t) ∙ e) in
+    let q : place ≡ k = cc (sym (if_true (Some place) (next_remote remotes (place + 1) n) t) ∙ e) in
     let m : place + suc n - (place + 1) ≡ n = omega arith in
     record {
       from = omega arith;
@@ -82,7 +76,7 @@ found remotes place (suc n) k e =
       falls = rw (← q, m, t) (omega arith);
     })
     (λ f.
-    let r = found remotes (place + 1) n k (sym (if_false (Seat place) (next_remote remotes (place + 1) n) f) ∙ e) in
+    let r = found remotes (place + 1) n k (sym (if_false (Some place) (next_remote remotes (place + 1) n) f) ∙ e) in
     let m : place + suc n - (k + 1) ≡ place + 1 + n - (k + 1) = omega arith in
     record {
       from = omega (arith, r.from);
@@ -143,29 +137,31 @@ left_le p ok Done place = omega arith
 -- ---- a message: to whom, and what it says
 
 pub record Told (s : Session) (emit : Emit) (place k : ℕ) (body : Body) : Type 0 where
-  pub target : target_of s.head place ≡ Seat k
-  pub says : saying s.head s.window emit ≡ Says body
+  pub target : target_of s.head place ≡ Some k
+  pub says : saying s.head s.window emit ≡ Some body
 
-addressed_to : (j k : ℕ) (body : Body) (x : Saying) → addressed j x ≡ To k body → (j ≡ k) × (x ≡ Says body)
+addressed_to : (j k : ℕ) (body : Body) (x : Option Body) → addressed j x ≡ Some (k, body) → (j ≡ k) × (x ≡ Some body)
 unfolding addressed
-addressed_to j k body Silent e = let z : ◌≡◌ {A = ℕ} 0 1 = cc in absurd (omega arith)
-addressed_to j k body (Says b) e = (cc, cc)
+addressed_to j k body None e = let z : ◌≡◌ {A = ℕ} 0 1 = cc in absurd (omega arith)
+addressed_to j k body (Some b) e =
+    let both : (j, b) ≡ (k, body) = cc in
+    (ap (λ (x : ℕ × Body). x.0) both, ap (λ (x : ℕ × Body). Some x.1) both)
 
-pub told : (s : Session) (emit : Emit) (place k : ℕ) (body : Body) → say s.head s.window emit place ≡ To k body
+pub told : (s : Session) (emit : Emit) (place k : ℕ) (body : Body) → say s.head s.window emit place ≡ Some (k, body)
     → Told s emit place k body
 unfolding say say_to
 told s emit place k body e = from (target_of s.head place) refl
   where
-    from : (t : Target) → target_of s.head place ≡ t → Told s emit place k body
-    from Nobody q =
+    from : (t : Option ℕ) → target_of s.head place ≡ t → Told s emit place k body
+    from None q =
         let f = sym (ap (say_to s.head s.window emit) q) ∙ e in
         let z : ◌≡◌ {A = ℕ} 0 1 = cc in
         absurd (omega arith)
-    from (Seat j) q =
+    from (Some j) q =
         let h = s.head in
         let w = s.window in
         let both = addressed_to j k body (saying h w emit) (sym (ap (say_to h w emit) q) ∙ e) in
-        record { target = q ∙ ap Seat both.0; says = both.1 }
+        record { target = q ∙ ap Some both.0; says = both.1 }
 
 -- it goes to a remote, and then fewer are left
 pub record Fell (p : SessionParams) (emit : Emit) (place k : ℕ) : Type 0 where
@@ -173,7 +169,7 @@ pub record Fell (p : SessionParams) (emit : Emit) (place k : ℕ) : Type 0 where
   pub remote : has (remotes_of p) k ≡ true
   pub falls : left_at p emit (min (k + 1) 255) < left_at p emit place
 
-fewer : (s : Session) (emit : Emit) (place k : ℕ) (body : Body) → saying s.head s.window emit ≡ Says body
+fewer : (s : Session) (emit : Emit) (place k : ℕ) (body : Body) → saying s.head s.window emit ≡ Some body
     → ahead s.head.params (k + 1) < ahead s.head.params place
     → left_at s.head.params emit (k + 1) < left_at s.head.params emit place
 unfolding left_at saying
@@ -183,7 +179,7 @@ fewer s Digest place k body q f = omega arith
 fewer s Bye place k body q f = omega arith
 fewer s Done place k body q f = let z : ◌≡◌ {A = ℕ} 0 1 = cc in absurd (omega arith)
 
-pub fell : (s : Session) (emit : Emit) (place k : ℕ) (body : Body) → say s.head s.window emit place ≡ To k body
+pub fell : (s : Session) (emit : Emit) (place k : ℕ) (body : Body) → say s.head s.window emit place ≡ Some (k, body)
     → Fell s.head.params emit place k
 unfolding target_of ahead
 fell s emit place k body e =
@@ -201,14 +197,14 @@ pub data Pumps (s : Session) : Pumped → Type 0 where
   refused : bad_state s.head.params ≡ true → Pumps s (pumped s (quiet s.head BadState))
   ended : bad_state s.head.params ≡ false → Pumps s (pumped s (pass_ends s.head))
   sends : (emit : Emit) (place k : ℕ) (body : Body) → bad_state s.head.params ≡ false
-      → say s.head s.window emit place ≡ To k body → left_at s.head.params emit place ≤ left s
+      → say s.head s.window emit place ≡ Some (k, body) → left_at s.head.params emit place ≤ left s
       → Pumps s (pumped s (send s.head s.window emit k body))
 
-by_say : (P : HeadPumped → Type 0) (h : Head) (w : Window) (emit : Emit) (x : Say) (rest : HeadPumped)
-    → ((k : ℕ) (body : Body) → x ≡ To k body → P (send h w emit k body)) → P rest → P (sent h w emit x rest)
+by_say : (P : HeadPumped → Type 0) (h : Head) (w : Window) (emit : Emit) (x : Option (ℕ × Body)) (rest : HeadPumped)
+    → ((k : ℕ) (body : Body) → x ≡ Some (k, body) → P (send h w emit k body)) → P rest → P (sent h w emit x rest)
 unfolding sent
-by_say P h w emit No rest f g = g
-by_say P h w emit (To k body) rest f g = f k body refl
+by_say P h w emit None rest f g = g
+by_say P h w emit (Some (k, body)) rest f g = f k body refl
 
 -- what the head comes to is a pump of the session
 abbrev Does : Session → HeadPumped → Type 0

@@ -1,4 +1,5 @@
 mod Loops
+mod Made
 pub mod Laws
 pub mod Newest
 pub mod Computing

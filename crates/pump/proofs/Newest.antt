@@ -11,6 +11,7 @@ use lib.Dec.{eqb}
 use lib.ListN.{length, get_or, take, drop, length-take, length-drop}
 use lib.Seq.{get_or-take, get_or-drop, ext_get_or}
 use borrow.Author.Tests.{eqb-true, eqb-false, lt-ltb, le-ltb}
+use Rattle.std.specs.Prelude.{Option, None, Some}
 use Rattle.logic.specs.Test.{when◌then◌else◌}
 use Rattle.logic.proofs.Cases.{by_test, if_true, if_false}
 use Rattle.logic.proofs.Tabulated.{length-tabulate, get_or-tabulate}
@@ -18,6 +19,7 @@ use Rattle.peer.specs.Seats.{seats}
 use Rattle.params.specs.Params.{max_width, bad_state}
 use Rattle.params.proofs.Laws.{sound}
 use Rattle.wire.specs.Wire.{redundancy}
+use Rattle.wire.specs.declared.Body.{Body}
 use Rattle.wire.specs.declared.Body.TheVariants as Body'
 use Rattle.wire.specs.declared.InputsBody.{InputsBody}
 use Rattle.wire.specs.declared.Message.{Message}
@@ -25,14 +27,11 @@ use Rattle.window.specs.Window.{is_held, frame_of}
 use Rattle.window.specs.Absorb.{frame_at}
 use Rattle.window.specs.declared.Window.{Window}
 use Rattle.window.proofs.Laws.{Sized, frame_length}
-use Rattle.fingerprint.specs.declared.Cell.{Cell}
-use Rattle.fingerprint.specs.declared.Cell.TheVariants.{Empty, Holds}
+use Rattle.fingerprint.specs.declared.Fingerprint.{Fingerprint}
 use Rattle.session.specs.declared.Emit.{Emit}
 use Rattle.session.specs.declared.Emit.TheVariants.{Hello, Inputs, Digest, Bye, Done}
 use Rattle.session.specs.declared.Head.{Head}
 use Rattle.session.specs.declared.Session.{Session}
-use Rattle.pump.specs.declared.Saying.{Saying}
-use Rattle.pump.specs.declared.Saying.TheVariants.{Says}
 use Rattle.pump.specs.declared.Outbound.TheVariants.{Send}
 use Rattle.pump.specs.declared.Pumped.{Pumped}
 use Rattle.pump.specs.Pump.{span, carried, first_tick, run_bytes, run_byte, run_from, run_of, inputs_of}
@@ -126,7 +125,8 @@ module _ (w : Window) (seat first count width : ℕ) where
   unfolding run_from
   length_run = length-tabulate run_bytes (run_byte w seat first count width)
 
-  run_at : (j : ℕ) → j < run_bytes → get_or (run_from w seat first count width) j 0 ≡ run_byte w seat first count width j
+  run_at : (j : ℕ) → j < run_bytes
+      → get_or (run_from w seat first count width) j 0 ≡ run_byte w seat first count width j
   unfolding run_from
   run_at j l = get_or-tabulate run_bytes (run_byte w seat first count width) 0 j l
 
@@ -196,16 +196,16 @@ module _ (h : Head) (w : Window) (b : InputsBody) where
   abbrev AsNow : Type 0
   AsNow = (carried h w ≡ 0 → ⊥) × (inputs_now h w ≡ b)
 
-  owed_not : (x : Cell) → digest_of x ≡ Says (Body'.Inputs b) → AsNow
+  owed_not : (x : Option Fingerprint) → digest_of x ≡ Some (Body'.Inputs b) → AsNow
   unfolding digest_of
-  owed_not Empty e = let z : ◌≡◌ {A = ℕ} 0 1 = cc in absurd (omega arith)
-  owed_not (Holds f) e = let z : ◌≡◌ {A = ℕ} 0 1 = cc in absurd (omega arith)
+  owed_not None e = let z : ◌≡◌ {A = ℕ} 0 1 = cc in absurd (omega arith)
+  owed_not (Some f) e = let z : ◌≡◌ {A = ℕ} 0 1 = cc in absurd (omega arith)
 
-  says_inputs : (emit : Emit) → saying h w emit ≡ Says (Body'.Inputs b) → AsNow
+  says_inputs : (emit : Emit) → saying h w emit ≡ Some (Body'.Inputs b) → AsNow
   unfolding saying inputs_of
   says_inputs Hello e = let z : ◌≡◌ {A = ℕ} 0 1 = cc in absurd (omega arith)
   says_inputs Inputs e =
-      by_test (λ (x : Saying). x ≡ Says (Body'.Inputs b) → AsNow)
+      by_test (λ (x : Option Body). x ≡ Some (Body'.Inputs b) → AsNow)
       (λ _ e. let z : ◌≡◌ {A = ℕ} 0 1 = cc in absurd (omega arith))
       (λ t e. (eqb-false (carried h w) 0 t, cc))
       e
@@ -224,5 +224,5 @@ inputs_sent s k m b ok = from (pump_is s)
     from (ended good) e q = let z : ◌≡◌ {A = ℕ} 0 1 = cc in absurd (omega arith)
     from (sends emit place j body good t h) e q =
         let is : body ≡ Body'.Inputs b = ap (λ (x : Message). x.body) (message_of e) ∙ q in
-        let both = says_inputs s.head s.window b emit ((told s emit place j body t).says ∙ ap Says is) in
+        let both = says_inputs s.head s.window b emit ((told s emit place j body t).says ∙ ap Some is) in
         rw (is, ← both.1) (carries s good ok both.0)

@@ -7,7 +7,8 @@
 -- it, stopping at the first no longer held. A remote's frame 64 ticks ahead empties that cell, so fewer than 8 may go;
 -- with the newest gone, Inputs is skipped." What carries frames goes by the window too, all else by the head alone.
 -- Assumes nothing.
-use Rattle.std.specs.Prelude.{ℕ, zero, suc, ◌+◌, ◌-◌, ◌*◌, ◌/◌, ◌%◌, min, Bool, true, false, ◌&&◌, List, eqb, ltb, get_or, replicate}
+use Rattle.std.specs.Prelude.{ℕ, zero, suc, ◌+◌, ◌-◌, ◌*◌, ◌/◌, ◌%◌, min, Bool, true, false, ◌&&◌, List}
+use Rattle.std.specs.Prelude.{Option, None, Some, eqb, ltb, get_or, replicate}
 use Rattle.logic.specs.Test.{when◌then◌else◌}
 use Rattle.logic.specs.Tabulate.{tabulate}
 use Rattle.peer.specs.Seats.{seats, has, is_subset}
@@ -19,33 +20,25 @@ use Rattle.wire.specs.declared.Body.TheVariants as Body'
 use Rattle.wire.specs.declared.HelloBody.{HelloBody}
 use Rattle.window.specs.Window.{is_held, frame_of}
 use Rattle.window.specs.declared.Window.{Window}
-use Rattle.fingerprint.specs.declared.Cell.{Cell}
-use Rattle.fingerprint.specs.declared.Cell.TheVariants.{Empty, Holds}
+use Rattle.fingerprint.specs.declared.Fingerprint.{Fingerprint}
 use Rattle.session.specs.Session.{with_head, with_pass, is_over, is_playing, last_committed}
 use Rattle.session.specs.declared.Emit.{Emit}
 use Rattle.session.specs.declared.Emit.TheVariants.{Hello, Inputs, Digest, Bye, Done}
 use Rattle.session.specs.declared.Head.{Head}
 use Rattle.session.specs.declared.Session.{Session}
-use Rattle.pump.specs.declared.Target.{Target}
-use Rattle.pump.specs.declared.Target.TheVariants.{Nobody, Seat}
-use Rattle.pump.specs.declared.Saying.{Saying}
-use Rattle.pump.specs.declared.Saying.TheVariants.{Silent, Says}
-use Rattle.pump.specs.declared.Say.{Say}
-use Rattle.pump.specs.declared.Say.TheVariants.{No, To}
 use Rattle.pump.specs.declared.Outbound.{Outbound}
 use Rattle.pump.specs.declared.Outbound.TheVariants.{Send, Nothing, BadState}
-use Rattle.pump.specs.declared.HeadPumped.{HeadPumped}
 use Rattle.pump.specs.declared.Pumped.{Pumped}
 
 -- ---- over the remotes by rising seat
 
 -- the first of n seats from `place` on that is in the set
-unfoldable pub next_remote : (remotes place n : ℕ) → Target
-next_remote remotes place zero = Nobody
-next_remote remotes place (suc n) = when has remotes place then Seat place else next_remote remotes (place + 1) n
+unfoldable pub next_remote : (remotes place n : ℕ) → Option ℕ
+next_remote remotes place zero = None
+next_remote remotes place (suc n) = when has remotes place then Some place else next_remote remotes (place + 1) n
 
 -- the first remote from `place` on
-unfoldable pub target_of : Head → ℕ → Target
+unfoldable pub target_of : Head → ℕ → Option ℕ
 target_of h place = next_remote (remotes_of h.params) place (seats - place)
 
 -- ---- the newest local frame and up to seven before it, stopping at the first no longer held
@@ -105,35 +98,35 @@ hello_of p = record {
 }
 
 -- with the newest gone, Inputs is skipped
-unfoldable pub inputs_of : Head → Window → Saying
+unfoldable pub inputs_of : Head → Window → Option Body
 inputs_of h w =
-    when eqb (carried h w) 0 then Silent
-    else Says (Body'.Inputs (record { first = first_tick h w; count = carried h w; width = h.params.width }))
+    when eqb (carried h w) 0 then None
+    else Some (Body'.Inputs (record { first = first_tick h w; count = carried h w; width = h.params.width }))
 
 -- the digest that is owed
-unfoldable pub digest_of : Cell → Saying
-digest_of Empty = Silent
-digest_of (Holds f) = Says (Body'.Digest (record { tick = f.tick; state = f.state; input = f.input }))
+unfoldable pub digest_of : Option Fingerprint → Option Body
+digest_of None = None
+digest_of (Some f) = Some (Body'.Digest (record { tick = f.tick; state = f.state; input = f.input }))
 
 -- Bye with pending minus one, 0 at 0
-unfoldable pub saying : Head → Window → Emit → Saying
-saying h w Hello = Says (Body'.Hello (hello_of h.params))
+unfoldable pub saying : Head → Window → Emit → Option Body
+saying h w Hello = Some (Body'.Hello (hello_of h.params))
 saying h w Inputs = inputs_of h w
 saying h w Digest = digest_of h.owed
-saying h w Bye = Says (Body'.Bye (record { tick = last_committed h }))
-saying h w Done = Silent
+saying h w Bye = Some (Body'.Bye (record { tick = last_committed h }))
+saying h w Done = None
 
-unfoldable pub addressed : ℕ → Saying → Say
-addressed k Silent = No
-addressed k (Says body) = To k body
+unfoldable pub addressed : ℕ → Option Body → Option (ℕ × Body)
+addressed k None = None
+addressed k (Some body) = Some (k, body)
 
-unfoldable pub say_to : Head → Window → Emit → Target → Say
-say_to h w emit Nobody = No
-say_to h w emit (Seat k) = addressed k (saying h w emit)
+unfoldable pub say_to : Head → Window → Emit → Option ℕ → Option (ℕ × Body)
+say_to h w emit None = None
+say_to h w emit (Some k) = addressed k (saying h w emit)
 
 -- a kind's next message: to the first remote from `place` on, where there is one and the kind has something to say. A
 -- kind that has not skips all its remotes
-unfoldable pub say : Head → Window → Emit → ℕ → Say
+unfoldable pub say : Head → Window → Emit → ℕ → Option (ℕ × Body)
 say h w emit place = say_to h w emit (target_of h place)
 
 -- ---- the end of a pass
@@ -145,9 +138,18 @@ first_kind h =
     else when is_playing h && is_subset seats (remotes_of h.params) h.marks.playing then Inputs
     else Hello
 
+-- the head, the answer, and the run beside it
+pub record HeadPumped : Type 0 where
+  pub head : Head
+  pub answer : Outbound
+  pub run : List ℕ
+
+abbrev pub sent_with : Head → Outbound → List ℕ → HeadPumped
+sent_with h answer run = record { head = h; answer = answer; run = run }
+
 -- an answer with no run
 unfoldable pub quiet : Head → Outbound → HeadPumped
-quiet h answer = record { head = h; answer = answer; run = no_run }
+quiet h answer = sent_with h answer no_run
 
 -- the first kind of the next pass is chosen when this one ends
 unfoldable pub pass_ends : Head → HeadPumped
@@ -172,15 +174,15 @@ send h w emit k body = record {
 }
 
 -- a kind's next message, or what comes after the kind
-unfoldable pub sent : Head → Window → Emit → Say → HeadPumped → HeadPumped
-sent h w emit No rest = rest
-sent h w emit (To k body) rest = send h w emit k body
+unfoldable pub sent : Head → Window → Emit → Option (ℕ × Body) → HeadPumped → HeadPumped
+sent h w emit None rest = rest
+sent h w emit (Some (k, body)) rest = send h w emit k body
 
 -- ---- a pass, kind by kind
 
-abbrev pub is_owed : Cell → Bool
-is_owed Empty = false
-is_owed (Holds f) = true
+abbrev pub is_owed : Option Fingerprint → Bool
+is_owed None = false
+is_owed (Some f) = true
 
 unfoldable pub pump_digest : Head → Window → ℕ → HeadPumped
 pump_digest h w place = sent h w Digest (say h w Digest place) (pass_ends h)
@@ -210,8 +212,11 @@ pump_head h w = when bad_state h.params then quiet h BadState else pump_from h w
 
 -- ---- the call: a pump changes nothing but the head
 
+abbrev pub pumped_with : Session → Outbound → List ℕ → Pumped
+pumped_with s answer run = record { session = s; answer = answer; run = run }
+
 abbrev pub pumped : Session → HeadPumped → Pumped
-pumped s r = record { session = with_head s r.head; answer = r.answer; run = r.run }
+pumped s r = pumped_with (with_head s r.head) r.answer r.run
 
 unfoldable pub pump : Session → Pumped
 pump s = pumped s (pump_head s.head s.window)

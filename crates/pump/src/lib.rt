@@ -1,33 +1,35 @@
 // The pump: what a session sends next. A pass goes kind by kind, each over the other seats, and answers with one
-// message a call until it has come to its end. It changes nothing but the head; the window's arrays are lent to it, and
-// only read.
+// message a call until it has come to its end. It changes nothing but the head; the window is only read.
 #![tactic(auto)]
 
-ghost use Rattle.std.specs.Prelude.{◌≡◌, false, List, ℕ, ◌+◌, ◌-◌, ◌*◌, ◌/◌, ◌%◌, ◌<◌, ◌≤◌, min, ltb, get_or, take, drop};
-ghost use Rattle.logic.specs.Test.{when◌then◌else◌};
+ghost use Rattle.std.specs.Prelude.{◌≡◌, false, ◌+◌, ◌-◌, ◌<◌, ◌≤◌};
 ghost use Rattle.logic.specs.Saturating.{most};
 ghost use Rattle.peer.specs.Seats.{seats};
 ghost use Rattle.params.specs.Params.{max_width, bad_state};
 ghost use Rattle.wire.specs.Wire.{redundancy};
-ghost use Rattle.window.specs.Window.{frame_start, window_of};
-ghost use Rattle.fingerprint.specs.declared.Fingerprints as Fingerprints';
-ghost use Rattle.session.specs.Session.{session_of};
 ghost use Rattle.pump.specs.Numbers.{outbound_no};
-ghost use Rattle.pump.specs.declared.Outbound.TheVariants.{Nothing};
-ghost use Rattle.pump.specs.Pump.{quiet, next_remote, span, carried, run_from, run_of, hello_of, inputs_of};
-ghost use Rattle.pump.specs.Pump.{digest_of, saying, addressed, say, is_owed, first_kind, pass_ends, run_beside};
-ghost use Rattle.pump.specs.Pump.{send, pump_digest, pump_inputs, pump_hello, pump_bye, pump_from, pumped, pump};
+ghost use Rattle.pump.specs.Pump.{next_remote, span, carried, run_byte, run_from, run_of, hello_of, inputs_of};
+ghost use Rattle.pump.specs.Pump.{digest_of, saying, say, first_kind, pass_ends, run_beside, sent_with};
+ghost use Rattle.pump.specs.Pump.{send, sent, pump_inputs, pump_hello, pump_from, pumped_with, pump};
 
-use fingerprint::Cell;
-use logic::{least, wide};
+use fingerprint::Fingerprint;
+use logic::Numbered;
 use params::SessionParams;
 use peer::PeerSet;
-use session::{Emit, Head, Pass, Session, Standing};
+use session::{Emit, Head, Pass, Session};
+use std::array;
+use window::Window;
 use wire::{Body, ByeBody, DigestBody, HelloBody, InputsBody, Message};
 
 // The longest run: as many frames as an Inputs carries, each as wide as can be.
 pub const RUN: usize = wire::REDUNDANCY as usize * params::MAX_WIDTH as usize;
 
+pub type Run = [u8; RUN];
+
+// What a message without frames has beside it.
+const NO_RUN: Run = [0; RUN];
+
+// Three answers of its own: 71 ends a pass and is no refusal.
 #[derive(Clone, Copy)]
 pub enum Outbound {
     Send { peer: u8, message: Message },
@@ -35,167 +37,103 @@ pub enum Outbound {
     BadState,
 }
 
-// An enum holds no array, so an Inputs' run stands beside the answer. It is zero past the frames, and beside anything
-// that is no Inputs.
+// An Inputs' run stands beside the answer (document 01). It is zero past the frames, and beside anything that is no
+// Inputs.
 #[derive(Clone, Copy)]
 pub struct Pumped {
     pub session: Session,
     pub answer: Outbound,
-    pub run: [u8; RUN],
+    pub run: Run,
 }
 
-// The same of the call in place.
-#[derive(Clone, Copy)]
-pub struct HeadPumped {
-    pub head: Head,
-    pub answer: Outbound,
-    pub run: [u8; RUN],
-}
+impl Numbered for Outbound {
+    ghost number_of = { outbound_no };
 
-// The next seat to send to.
-#[derive(Clone, Copy)]
-pub enum Target {
-    Nobody,
-    Seat(u8),
-}
-
-// What a kind says at this moment, to whichever seat.
-#[derive(Clone, Copy)]
-pub enum Saying {
-    Silent,
-    Says(Body),
-}
-
-// The two together.
-#[derive(Clone, Copy)]
-pub enum Say {
-    No,
-    To { peer: u8, body: Body },
-}
-
-impl Outbound {
-    // Document 01's number.
-    pub fn number(self) -> u8
-        ensures { result ≡ outbound_no self }
-    {
+    fn number(self) -> u8 {
         match self {
-            Outbound::Send {
-                peer: _,
-                message: _,
-            } => 0,
+            Outbound::Send { .. } => 0,
             Outbound::Nothing => 71,
             Outbound::BadState => 20,
         }
     }
 }
 
-// An answer with no run.
-fn quiet(h: Head, answer: Outbound) -> HeadPumped
-    ensures { result ≡ quiet h answer }
-{
-    HeadPumped {
-        head: h,
-        answer: answer,
-        run: [0u8; RUN],
-    }
-}
-
 // The first seat from `place` on that is in the set.
-fn next_remote(remotes: PeerSet, place: u8) -> Target
+#[tactic(auto, using(crate::proofs::Loops::next_steps))]
+fn next_remote(remotes: PeerSet, place: u8) -> Option<u8>
     ensures { result ≡ next_remote remotes.0 place (seats - place) }
 {
-    let mut k = place;
-    while k < peer::SEATS {
-        if remotes.contains(k) {
-            return Target::Seat(k);
+    for seat in place..peer::SEATS {
+        if remotes.contains(seat) {
+            return Some(seat);
         }
-        k += 1;
     }
-    Target::Nobody
+    None
 }
 
 // How many frames of the seat are held without a gap, from the newest back.
-fn span(
-    ticks: &[u64; window::SLOTS],
-    present: &[peer::Bits; window::SLOTS],
-    seat: u8,
-    newest: u64,
-) -> u8
-    ensures { (ring : List ℕ) →
-        result ≡ span (window_of ring ticks.now present.now) seat newest redundancy }
+#[tactic(auto, using(crate::proofs::Loops::span_steps))]
+fn span(window: &Window, seat: u8, newest: u64) -> u8
+    ensures { result ≡ span window.now seat newest redundancy }
 {
     let mut tick = newest;
-    let mut n: u8 = 0;
-    while n < wire::REDUNDANCY {
-        if !window::holds(ticks, present, seat, tick) {
+    for n in 0..wire::REDUNDANCY {
+        if !window.holds(seat, tick) {
             return n;
         }
-        n += 1;
         if tick == 0 {
-            return n;
+            return n + 1;
         }
         tick -= 1;
     }
-    n
+    wire::REDUNDANCY
 }
 
 // How many frames an Inputs carries now.
-fn carried(h: Head, ticks: &[u64; window::SLOTS], present: &[peer::Bits; window::SLOTS]) -> u8
-    ensures { (ring : List ℕ) →
-        result ≡ carried h (window_of ring ticks.now present.now) }
+#[tactic(auto, using(logic::proofs::Cases::if_true, logic::proofs::Cases::if_false), unfolding(crate::specs::Pump::carried))]
+fn carried(head: &Head, window: &Window) -> u8
+    ensures { result ≡ carried head.now window.now }
 {
-    let next = h.play.next_local;
+    let next = head.play.next_local;
     if next == 0 {
         return 0;
     }
-    span(ticks, present, h.params.local, next - 1)
+    span(window, head.params.local, next - 1)
 }
 
 // Byte j of the run of `count` frames of a seat from the tick `first` on: byte j mod width of frame j div width.
-fn run_byte(ring: &[u8; window::RING], seat: u8, first: u64, count: u8, width: u8, j: usize) -> u8
+#[tactic(auto, using(logic::proofs::Cases::if_false, crate::proofs::Loops::run_byte_is), unfolding(crate::specs::Pump::run_byte))]
+fn run_byte(window: &Window, seat: u8, first: u64, count: u8, width: u8, j: usize) -> u8
     requires { (seat < seats) × (1 ≤ width) × (width ≤ max_width) × (first + count ≤ most) }
-    ensures { result ≡ when ltb j (count * width)
-        then get_or (take width (drop (frame_start seat (first + j / width)) ring.now)) (j % width) 0
-        else 0 }
+    ensures { result ≡ run_byte window.now seat first count width j }
 {
-    let n = wide(width);
-    if j >= wide(count) * n {
+    let n = usize::from(width);
+    if j >= usize::from(count) * n {
         return 0;
     }
     let tick = first + (j / n) as u64;
-    ring[window::frame_start(seat, tick) + j % n]
+    window.ring[window::frame_start(seat, tick) + j % n]
 }
 
 // The run of `count` frames of a seat, from the tick `first` on; past the frames it is zero.
-fn run_from(ring: &[u8; window::RING], seat: u8, first: u64, count: u8, width: u8) -> [u8; RUN]
+fn run_from(window: &Window, seat: u8, first: u64, count: u8, width: u8) -> Run
     requires { (seat < seats) × (1 ≤ width) × (width ≤ max_width) × (first + count ≤ most) }
-    ensures { (ticks present : List ℕ) →
-        result ≡ run_from (window_of ring.now ticks present) seat first count width }
+    ensures { result ≡ run_from window.now seat first count width }
 {
-    let end = least(wide(count) * wide(width), RUN);
-    let mut run = [0u8; RUN];
-    let mut j: usize = 0;
-    while j < end {
-        run[j] = run_byte(ring, seat, first, count, width, j);
-        j += 1;
-    }
-    run
+    array::from_fn(|j| run_byte(window, seat, first, count, width, j))
 }
 
-fn run_of(
-    h: Head,
-    ring: &[u8; window::RING],
-    ticks: &[u64; window::SLOTS],
-    present: &[peer::Bits; window::SLOTS],
-) -> [u8; RUN]
-    requires { bad_state h.params ≡ false }
-    ensures { result ≡ run_of h (window_of ring.now ticks.now present.now) }
+#[tactic(auto, using(crate::proofs::Loops::carried_next, params::proofs::Laws::sound), unfolding(crate::specs::Pump::run_of))]
+fn run_of(head: &Head, window: &Window) -> Run
+    requires { bad_state head.now.params ≡ false }
+    ensures { result ≡ run_of head.now window.now }
 {
-    let count = carried(h, ticks, present);
-    let first = h.play.next_local - logic::long(count);
-    run_from(ring, h.params.local, first, count, h.params.width)
+    let count = carried(head, window);
+    let first = head.play.next_local - u64::from(count);
+    run_from(window, head.params.local, first, count, head.params.width)
 }
 
+#[tactic(auto, unfolding(crate::specs::Pump::hello_of))]
 fn hello_of(p: SessionParams) -> HelloBody
     ensures { result ≡ hello_of p }
 {
@@ -212,321 +150,185 @@ fn hello_of(p: SessionParams) -> HelloBody
 }
 
 // The newest local frame and those before it that are still held. With the newest gone there is nothing to say.
-fn inputs_of(h: Head, ticks: &[u64; window::SLOTS], present: &[peer::Bits; window::SLOTS]) -> Saying
-    ensures { (ring : List ℕ) →
-        result ≡ inputs_of h (window_of ring ticks.now present.now) }
+#[tactic(auto, using(logic::proofs::Cases::if_true, logic::proofs::Cases::if_false, crate::proofs::Loops::carried_next), unfolding(crate::specs::Pump::inputs_of))]
+fn inputs_of(head: &Head, window: &Window) -> Option<Body>
+    ensures { result ≡ inputs_of head.now window.now }
 {
-    let count = carried(h, ticks, present);
+    let count = carried(head, window);
     if count == 0 {
-        return Saying::Silent;
+        return None;
     }
-    let first = h.play.next_local - logic::long(count);
-    Saying::Says(Body::Inputs(InputsBody {
-        first: first,
-        count: count,
-        width: h.params.width,
+    Some(Body::Inputs(InputsBody {
+        first: head.play.next_local - u64::from(count),
+        count,
+        width: head.params.width,
     }))
 }
 
-fn digest_of(owed: Cell) -> Saying
+#[tactic(auto, unfolding(crate::specs::Pump::digest_of))]
+fn digest_of(owed: Option<Fingerprint>) -> Option<Body>
     ensures { result ≡ digest_of owed }
 {
-    match owed {
-        Cell::Empty => Saying::Silent,
-        Cell::Holds(print) => Saying::Says(Body::Digest(DigestBody {
-            tick: print.tick,
-            state: print.state,
-            input: print.input,
-        })),
-    }
+    let print = owed?;
+    Some(Body::Digest(DigestBody {
+        tick: print.tick,
+        state: print.state,
+        input: print.input,
+    }))
 }
 
-fn kind_says(
-    h: Head,
-    ticks: &[u64; window::SLOTS],
-    present: &[peer::Bits; window::SLOTS],
-    emit: Emit,
-) -> Saying
-    ensures { (ring : List ℕ) →
-        result ≡ saying h (window_of ring ticks.now present.now) emit }
+// What a kind says at this moment, to whichever seat.
+#[tactic(auto, unfolding(crate::specs::Pump::saying))]
+fn kind_says(head: &Head, window: &Window, emit: Emit) -> Option<Body>
+    ensures { result ≡ saying head.now window.now emit }
 {
-    let cell = h.owed;
     match emit {
-        Emit::Hello => Saying::Says(Body::Hello(hello_of(h.params))),
-        Emit::Inputs => inputs_of(h, ticks, present),
-        Emit::Digest => digest_of(cell),
-        Emit::Bye => Saying::Says(Body::Bye(ByeBody {
-            tick: logic::saturating_sub(h.play.pending, 1),
+        Emit::Hello => Some(Body::Hello(hello_of(head.params))),
+        Emit::Inputs => inputs_of(head, window),
+        Emit::Digest => digest_of(head.owed),
+        Emit::Bye => Some(Body::Bye(ByeBody {
+            tick: head.play.pending.saturating_sub(1),
         })),
-        Emit::Done => Saying::Silent,
-    }
-}
-
-fn addressed(peer: u8, what: Saying) -> Say
-    ensures { result ≡ addressed peer what }
-{
-    match what {
-        Saying::Silent => Say::No,
-        Saying::Says(body) => Say::To {
-            peer: peer,
-            body: body,
-        },
+        Emit::Done => None,
     }
 }
 
 // What a kind says, to the next seat from `place` on.
-fn say_next(
-    h: Head,
-    ticks: &[u64; window::SLOTS],
-    present: &[peer::Bits; window::SLOTS],
-    emit: Emit,
-    place: u8,
-) -> Say
-    ensures { (ring : List ℕ) →
-        result ≡ say h (window_of ring ticks.now present.now) emit place }
+#[tactic(auto, unfolding(crate::specs::Pump::say, crate::specs::Pump::target_of, crate::specs::Pump::say_to, crate::specs::Pump::addressed))]
+fn say_next(head: &Head, window: &Window, emit: Emit, place: u8) -> Option<(u8, Body)>
+    ensures { result ≡ say head.now window.now emit place }
 {
-    let target = next_remote(h.params.remotes(), place);
-    match target {
-        Target::Nobody => Say::No,
-        Target::Seat(k) => addressed(k, kind_says(h, ticks, present, emit)),
-    }
-}
-
-fn is_owed(owed: Cell) -> bool
-    ensures { result ≡ is_owed owed }
-{
-    match owed {
-        Cell::Empty => false,
-        Cell::Holds(_) => true,
-    }
+    let peer = next_remote(head.params.remotes(), place)?;
+    let body = kind_says(head, window, emit)?;
+    Some((peer, body))
 }
 
 // The kind that a pass starts with.
-fn first_kind(h: Head) -> Emit
-    ensures { result ≡ first_kind h }
+#[tactic(auto, using(logic::proofs::Cases::if_true, logic::proofs::Cases::if_false), unfolding(crate::specs::Pump::first_kind))]
+fn first_kind(head: &Head) -> Emit
+    ensures { result ≡ first_kind head.now }
 {
-    let standing = h.outcome;
-    if let Standing::Over(_) = standing {
+    if head.outcome.is_some() {
         return Emit::Bye;
     }
-    if !shown::is_playing(h) {
-        return Emit::Hello;
-    }
-    if h.params.remotes().subset(PeerSet(h.marks.playing)) {
+    let everybody = head.params.remotes().subset(PeerSet(head.marks.playing));
+    if shown::is_playing(head) && everybody {
         return Emit::Inputs;
     }
     Emit::Hello
 }
 
-fn pass_ends(h: Head) -> HeadPumped
-    ensures { result ≡ pass_ends h }
+#[tactic(auto, unfolding(crate::specs::Pump::pass_ends, crate::specs::Pump::quiet, crate::specs::Pump::no_run))]
+fn pass_ends(head: &mut Head) -> (Outbound, Run)
+    ensures { sent_with head.new result.0 result.1 ≡ pass_ends head.old }
 {
-    let next = Head {
-        pass: Pass {
-            kind: first_kind(h),
-            place: 0,
-        },
-        ..h
-    };
-    quiet(next, Outbound::Nothing)
+    let kind = first_kind(head);
+    head.pass = Pass { kind, place: 0 };
+    (Outbound::Nothing, NO_RUN)
 }
 
-fn after(peer: u8) -> u8
-    ensures { result ≡ min (peer + 1) 255 }
-{
-    if peer < 255 {
-        return peer + 1;
-    }
-    255
-}
-
-fn run_beside(
-    h: Head,
-    ring: &[u8; window::RING],
-    ticks: &[u64; window::SLOTS],
-    present: &[peer::Bits; window::SLOTS],
-    body: Body,
-) -> [u8; RUN]
-    requires { bad_state h.params ≡ false }
-    ensures { result ≡ run_beside h (window_of ring.now ticks.now present.now) body }
+#[tactic(auto, unfolding(crate::specs::Pump::run_beside, crate::specs::Pump::no_run))]
+fn run_beside(head: &Head, window: &Window, body: Body) -> Run
+    requires { bad_state head.now.params ≡ false }
+    ensures { result ≡ run_beside head.now window.now body }
 {
     match body {
-        Body::Hello(_) => [0u8; RUN],
-        Body::Inputs(_) => run_of(h, ring, ticks, present),
-        Body::Digest(_) => [0u8; RUN],
-        Body::Bye(_) => [0u8; RUN],
-        Body::Other(_) => [0u8; RUN],
+        Body::Inputs(_) => run_of(head, window),
+        _ => NO_RUN,
     }
 }
 
-fn send(
-    h: Head,
-    ring: &[u8; window::RING],
-    ticks: &[u64; window::SLOTS],
-    present: &[peer::Bits; window::SLOTS],
-    emit: Emit,
-    peer: u8,
-    body: Body,
-) -> HeadPumped
-    requires { bad_state h.params ≡ false }
-    ensures { result
-        ≡ send h (window_of ring.now ticks.now present.now) emit peer body }
+#[tactic(auto, unfolding(crate::specs::Pump::send))]
+fn send(head: &mut Head, window: &Window, emit: Emit, peer: u8, body: Body) -> (Outbound, Run)
+    requires { bad_state head.old.params ≡ false }
+    ensures { sent_with head.new result.0 result.1 ≡ send head.old window.now emit peer body }
 {
-    let run = run_beside(h, ring, ticks, present, body);
+    let run = run_beside(head, window, body);
     let message = Message {
-        sender: h.params.local,
-        session: h.params.session,
-        body: body,
+        sender: head.params.local,
+        session: head.params.session,
+        body,
     };
-    let next = Head {
-        pass: Pass {
-            kind: emit,
-            place: after(peer),
-        },
-        ..h
+    head.pass = Pass {
+        kind: emit,
+        place: peer.saturating_add(1),
     };
-    HeadPumped {
-        head: next,
-        answer: Outbound::Send {
-            peer: peer,
-            message: message,
-        },
-        run: run,
-    }
+    (Outbound::Send { peer, message }, run)
 }
 
 // ---- each kind, from a seat on; with nothing left of it, what comes after it in the pass
 
-fn pump_digest(
-    h: Head,
-    ring: &[u8; window::RING],
-    ticks: &[u64; window::SLOTS],
-    present: &[peer::Bits; window::SLOTS],
-    place: u8,
-) -> HeadPumped
-    requires { bad_state h.params ≡ false }
-    ensures { result
-        ≡ pump_digest h (window_of ring.now ticks.now present.now) place }
+// A kind that a pass ends with: Digest, or Bye.
+#[tactic(auto, unfolding(crate::specs::Pump::sent))]
+fn pump_last(head: &mut Head, window: &Window, emit: Emit, place: u8) -> (Outbound, Run)
+    requires { bad_state head.old.params ≡ false }
+    ensures { sent_with head.new result.0 result.1
+        ≡ sent head.old window.now emit (say head.old window.now emit place) (pass_ends head.old) }
 {
-    let said = say_next(h, ticks, present, Emit::Digest, place);
-    if let Say::To { peer, body } = said {
-        return send(h, ring, ticks, present, Emit::Digest, peer, body);
-    }
-    pass_ends(h)
-}
-
-fn pump_inputs(
-    h: Head,
-    ring: &[u8; window::RING],
-    ticks: &[u64; window::SLOTS],
-    present: &[peer::Bits; window::SLOTS],
-    place: u8,
-) -> HeadPumped
-    requires { bad_state h.params ≡ false }
-    ensures { result
-        ≡ pump_inputs h (window_of ring.now ticks.now present.now) place }
-{
-    let said = say_next(h, ticks, present, Emit::Inputs, place);
-    if let Say::To { peer, body } = said {
-        return send(h, ring, ticks, present, Emit::Inputs, peer, body);
-    }
-    let owed = h.owed;
-    if is_owed(owed) {
-        return pump_digest(h, ring, ticks, present, 0);
-    }
-    pass_ends(h)
-}
-
-fn pump_hello(
-    h: Head,
-    ring: &[u8; window::RING],
-    ticks: &[u64; window::SLOTS],
-    present: &[peer::Bits; window::SLOTS],
-    place: u8,
-) -> HeadPumped
-    requires { bad_state h.params ≡ false }
-    ensures { result
-        ≡ pump_hello h (window_of ring.now ticks.now present.now) place }
-{
-    let said = say_next(h, ticks, present, Emit::Hello, place);
-    if let Say::To { peer, body } = said {
-        return send(h, ring, ticks, present, Emit::Hello, peer, body);
-    }
-    if shown::is_playing(h) {
-        return pump_inputs(h, ring, ticks, present, 0);
-    }
-    pass_ends(h)
-}
-
-fn pump_bye(
-    h: Head,
-    ring: &[u8; window::RING],
-    ticks: &[u64; window::SLOTS],
-    present: &[peer::Bits; window::SLOTS],
-    place: u8,
-) -> HeadPumped
-    requires { bad_state h.params ≡ false }
-    ensures { result
-        ≡ pump_bye h (window_of ring.now ticks.now present.now) place }
-{
-    let said = say_next(h, ticks, present, Emit::Bye, place);
-    if let Say::To { peer, body } = said {
-        return send(h, ring, ticks, present, Emit::Bye, peer, body);
-    }
-    pass_ends(h)
-}
-
-fn pump_from(
-    h: Head,
-    ring: &[u8; window::RING],
-    ticks: &[u64; window::SLOTS],
-    present: &[peer::Bits; window::SLOTS],
-    kind: Emit,
-) -> HeadPumped
-    requires { bad_state h.params ≡ false }
-    ensures { result
-        ≡ pump_from h (window_of ring.now ticks.now present.now) kind }
-{
-    match kind {
-        Emit::Hello => pump_hello(h, ring, ticks, present, h.pass.place),
-        Emit::Inputs => pump_inputs(h, ring, ticks, present, h.pass.place),
-        Emit::Digest => pump_digest(h, ring, ticks, present, h.pass.place),
-        Emit::Bye => pump_bye(h, ring, ticks, present, h.pass.place),
-        Emit::Done => pass_ends(h),
+    match say_next(head, window, emit, place) {
+        Some((peer, body)) => send(head, window, emit, peer, body),
+        None => pass_ends(head),
     }
 }
 
-// The session's next message, in place. The answer is Nothing once in a pass, at its end.
-pub fn next_outbound_in(
-    h: Head,
-    ring: &[u8; window::RING],
-    ticks: &[u64; window::SLOTS],
-    present: &[peer::Bits; window::SLOTS],
-) -> HeadPumped
-    ensures { (p : Fingerprints'.Fingerprints) →
-        pumped (session_of h (window_of ring.now ticks.now present.now) p) result
-        ≡ pump (session_of h (window_of ring.now ticks.now present.now) p) }
+#[tactic(auto, using(logic::proofs::Cases::if_true, logic::proofs::Cases::if_false), unfolding(crate::specs::Pump::pump_inputs, crate::specs::Pump::pump_digest, crate::specs::Pump::sent))]
+fn pump_inputs(head: &mut Head, window: &Window, place: u8) -> (Outbound, Run)
+    requires { bad_state head.old.params ≡ false }
+    ensures { sent_with head.new result.0 result.1 ≡ pump_inputs head.old window.now place }
 {
-    if h.params.bad_state() {
-        return quiet(h, Outbound::BadState);
+    match say_next(head, window, Emit::Inputs, place) {
+        Some((peer, body)) => send(head, window, Emit::Inputs, peer, body),
+        None if head.owed.is_some() => pump_last(head, window, Emit::Digest, 0),
+        None => pass_ends(head),
     }
-    let pass = h.pass;
-    let kind = pass.kind;
-    pump_from(h, ring, ticks, present, kind)
 }
 
-// The same of a whole session, by value.
+#[tactic(auto, using(logic::proofs::Cases::if_true, logic::proofs::Cases::if_false), unfolding(crate::specs::Pump::pump_hello, crate::specs::Pump::sent))]
+fn pump_hello(head: &mut Head, window: &Window, place: u8) -> (Outbound, Run)
+    requires { bad_state head.old.params ≡ false }
+    ensures { sent_with head.new result.0 result.1 ≡ pump_hello head.old window.now place }
+{
+    match say_next(head, window, Emit::Hello, place) {
+        Some((peer, body)) => send(head, window, Emit::Hello, peer, body),
+        None if shown::is_playing(head) => pump_inputs(head, window, 0),
+        None => pass_ends(head),
+    }
+}
+
+#[tactic(auto, unfolding(crate::specs::Pump::pump_from, crate::specs::Pump::pump_digest, crate::specs::Pump::pump_bye))]
+fn pump_from(head: &mut Head, window: &Window) -> (Outbound, Run)
+    requires { bad_state head.old.params ≡ false }
+    ensures { sent_with head.new result.0 result.1 ≡ pump_from head.old window.now head.old.pass.kind }
+{
+    let place = head.pass.place;
+    match head.pass.kind {
+        Emit::Hello => pump_hello(head, window, place),
+        Emit::Inputs => pump_inputs(head, window, place),
+        Emit::Digest => pump_last(head, window, Emit::Digest, place),
+        Emit::Bye => pump_last(head, window, Emit::Bye, place),
+        Emit::Done => pass_ends(head),
+    }
+}
+
+// The session's next message, and its run. The answer is Nothing once in a pass, at its end.
+#[tactic(auto, using(logic::proofs::Cases::if_true, logic::proofs::Cases::if_false), unfolding(crate::specs::Pump::pump, crate::specs::Pump::pump_head, crate::specs::Pump::quiet, crate::specs::Pump::no_run))]
+pub fn next_outbound_in(s: &mut Session) -> (Outbound, Run)
+    ensures { pumped_with s.new result.0 result.1 ≡ pump s.old }
+{
+    if s.head.params.bad_state() {
+        return (Outbound::BadState, NO_RUN);
+    }
+    pump_from(&mut s.head, &s.window)
+}
+
+// The same by value.
 pub fn next_outbound(mut s: Session) -> Pumped
     ensures { result ≡ pump s }
 {
-    let done = next_outbound_in(s.head, &s.window.ring, &s.window.ticks, &s.window.present);
-    let head = done.head;
-    let answer = done.answer;
-    let run = done.run;
-    s.head = head;
+    let (answer, run) = next_outbound_in(&mut s);
     Pumped {
         session: s,
-        answer: answer,
-        run: run,
+        answer,
+        run,
     }
 }
