@@ -2,19 +2,18 @@
 -- sides of the limit of 62. Assumes nothing.
 use Prim.Native.Nat.{ℕ}
 use mathlib.Core.Path.{◌≡◌, refl}
-use mathlib.Core.List.{List, [], ◌∷◌}
-use lib.ListN.{replicate}
+use mathlib.Core.List.{List, [], ◌∷◌, ◌++◌}
+use lib.ListN.{length, replicate}
+use Rattle.std.specs.Prelude.{Some, Result, Ok, Err}
 use Rattle.logic.specs.Test.{when◌then◌else◌}
 use Rattle.peer.specs.Seats.{has, set_of, every, tally, first_seats, removing, is_empty, seat_count}
-use Rattle.fingerprint.specs.declared.LastAgreed.TheVariants.{At}
 use Rattle.text.specs.Ascii.{ascii}
 use Rattle.text.specs.Decimal.{digits, decimal}
 use Rattle.text.specs.Hex.{hex_digit, hex_digits}
 use Rattle.text.specs.Text.{join, copy_answer, copy_into}
 use Rattle.desync.specs.declared.DesyncReport.{DesyncReport}
-use Rattle.desync.specs.declared.Sought.TheVariants.{Desynced}
-use Rattle.desync.specs.declared.WriteReport.{WriteReport}
-use Rattle.desync.specs.declared.WriteReport.TheVariants.{NoRoom, Written}
+use Rattle.desync.specs.declared.WriteError.{WriteError}
+use Rattle.desync.specs.declared.WriteError.TheVariants.{NoRoom}
 use Rattle.desync.specs.Report.{others_of, differs, dissenters_of, inputs_agree, is_witnessed}
 use Rattle.desync.specs.Json.{flag_text, digest_text, seat_digest, tick_text, comma, seat_list, peer_text, peer_list}
 use Rattle.desync.specs.Json.{head_text, verdict_text, own_text, lists_text, agreed_text, stats_text, report_text}
@@ -32,7 +31,7 @@ four = record {
   states = 0 ∷ 9 ∷ 7 ∷ 0xbeef ∷ 0 ∷ 0 ∷ 0 ∷ 0 ∷ [];
   inputs_in = 14;
   inputs = 0 ∷ 3 ∷ 3 ∷ 4 ∷ 0 ∷ 0 ∷ 0 ∷ 0 ∷ [];
-  last_agreed = At 20;
+  last_agreed = Some 20;
   agreement = 255;
   content = 16;
   rules = 0;
@@ -66,17 +65,21 @@ unfolding four report_text head_text verdict_text own_text lists_text agreed_tex
     tally first_seats removing is_empty seat_count digits decimal hex_digit hex_digits join when◌then◌else◌
 whole = refl
 
--- a text of four bytes in buffers of three, four and five
-room : ℕ → WriteReport
-room n = write_answer (ascii "text") (replicate n 0) (Desynced 30)
+-- the text, of 799 bytes, in buffers of one less, just as many and one more
+size : length (report_text four) ≡ 799
+unfolding join
+size = rw whole
 
-answers : room 3 ∷ room 4 ∷ room 5 ∷ [] ≡ NoRoom ∷ Written 4 ∷ Written 4 ∷ []
+room : ℕ → Result ℕ WriteError
+room n = write_answer (Ok four) (replicate n 0)
+
+answers : room 798 ∷ room 799 ∷ room 800 ∷ [] ≡ Err NoRoom ∷ Ok 799 ∷ Ok 799 ∷ []
 unfolding room write_answer copy_answer when◌then◌else◌
-answers = refl
+answers = rw size refl
 
 left : ℕ → List ℕ
-left n = write_into (ascii "text") (replicate n 1) (Desynced 30)
+left n = write_into (Ok four) (replicate n 1)
 
-lent : left 3 ∷ left 5 ∷ [] ≡ (1 ∷ 1 ∷ 1 ∷ []) ∷ (116 ∷ 101 ∷ 120 ∷ 116 ∷ 1 ∷ []) ∷ []
+lent : left 798 ∷ left 800 ∷ [] ≡ replicate 798 1 ∷ (report_text four ++ 1 ∷ []) ∷ []
 unfolding left write_into copy_into when◌then◌else◌
-lent = refl
+lent = rw size refl

@@ -3,22 +3,21 @@
 use Prim.Native.Nat.{ℕ, zero, suc, ◌+◌, ◌*◌, ◌^◌, ◌≤◌, ◌<◌, min}
 use mathlib.Core.Path.{◌≡◌, sym, ◌∙◌}
 use mathlib.Core.Bool.{Bool, true, false}
-use mathlib.Core.List.{List}
+use mathlib.Core.List.{List, []}
 use native.Mathlib.Omega.{arith}
 use lib.ListN.{length}
 use Rattle.logic.proofs.Cases.{by_test}
 use Rattle.peer.specs.Seats.{seats, seat_count}
-use Rattle.fingerprint.specs.declared.LastAgreed.{LastAgreed}
-use Rattle.fingerprint.specs.declared.LastAgreed.TheVariants.{Never, At}
+use Rattle.std.specs.Prelude.{Option, None, Some, Result}
 use Rattle.stats.specs.declared.SessionStats.{SessionStats}
 use Rattle.text.specs.Decimal.{decimal}
-use Rattle.text.specs.Text.{page, written, put}
+use Rattle.text.specs.Text.{put}
 use Rattle.text.proofs.Writing.{join-length, put_front}
 use Rattle.text.proofs.Decimals.{decimal-length}
 use Rattle.text.proofs.Hexes.{hex_length}
 use Rattle.desync.specs.declared.DesyncReport.{DesyncReport}
-use Rattle.desync.specs.declared.Reported.{Reported}
-use Rattle.desync.specs.declared.WriteReport.{WriteReport}
+use Rattle.desync.specs.declared.ReportError.{ReportError}
+use Rattle.desync.specs.declared.WriteError.{WriteError}
 use Rattle.desync.specs.Asked.{WritesAs}
 use Rattle.desync.specs.Report.{dissenters_of, inputs_agree, is_witnessed}
 use Rattle.desync.specs.Json.{report_most, flag_text, digest_text, seat_digest, tick_text, comma, seat_list, peer_text}
@@ -28,9 +27,9 @@ use Rattle.desync.specs.Json.{report_text}
 -- ---- what a record's types say of its numbers
 
 -- a last tick is at most twenty digits
-abbrev pub TickSized : LastAgreed → Type 0
-TickSized Never = Unit
-TickSized (At tick) = tick < 2 ^ 64
+abbrev pub TickSized : Option ℕ → Type 0
+TickSized None = Unit
+TickSized (Some tick) = tick < 2 ^ 64
 
 pub record StatsSized (s : SessionStats) : Type 0 where
   pub refused : s.datagrams_refused < 2 ^ 64
@@ -57,10 +56,10 @@ u64-length n h = decimal-length 19 n (omega arith)
 byte_length : (n : ℕ) → n < 2 ^ 8 → length (decimal n) ≤ 3
 byte_length n h = decimal-length 2 n (omega arith)
 
-pub tick_length : (last : LastAgreed) → TickSized last → length (tick_text last) ≤ 20
+pub tick_length : (last : Option ℕ) → TickSized last → length (tick_text last) ≤ 20
 unfolding tick_text
-tick_length Never h = omega arith
-tick_length (At tick) h = u64-length tick h
+tick_length None h = omega arith
+tick_length (Some tick) h = u64-length tick h
 
 flag_length : (b : Bool) → length (flag_text b) ≤ 5
 unfolding flag_text
@@ -174,11 +173,11 @@ module _ (r : DesyncReport) (h : Sized r) where
   report_length =
       rw join-length (omega (arith, head_length, verdict_length, own-length, lists_length, agreed_length, stats_length))
 
-  -- so what is written at the front of a buffer is the text, whole
-  pub report_whole : (before : List ℕ) → put (page before 0) (report_text r) ≡ written (report_text r) before
-  report_whole before = put_front before (report_text r) (omega (arith, report_length))
+  -- so what is written on an empty text is the report, whole
+  pub report_whole : put [] (report_text r) ≡ report_text r
+  report_whole = put_front (report_text r) (omega (arith, report_length))
 
 -- the promise fixes the answer and every lent byte: two that meet it are equal
-pub writes_one : {found : Reported} {out : List ℕ} {a b : WriteReport} {after other : List ℕ}
+pub writes_one : {found : Result DesyncReport ReportError} {out : List ℕ} {a b : Result ℕ WriteError} {after other : List ℕ}
     → WritesAs found out a after → WritesAs found out b other → (a ≡ b) × (after ≡ other)
 writes_one x y = (x.answered ∙ sym y.answered, x.lent ∙ sym y.lent)

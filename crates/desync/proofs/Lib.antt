@@ -1,3 +1,3 @@
-mod Loops
+pub mod Loops
 pub mod Laws
 mod Examples

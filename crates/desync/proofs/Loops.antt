@@ -12,7 +12,7 @@ use Rattle.peer.specs.Seats.{has, bit, set_of, every, tally, is_empty, seat_coun
 use Rattle.peer.proofs.Laws.{has-bit, has_above}
 use Rattle.text.specs.Ascii.{ascii}
 use Rattle.text.specs.Decimal.{decimal}
-use Rattle.text.specs.Text.{Page, page, put}
+use Rattle.text.specs.Text.{put}
 use Rattle.text.proofs.Writing.{put-join}
 use Rattle.desync.specs.Json.{comma, seat_list}
 
@@ -33,20 +33,19 @@ count_more : (set k : ℕ) → seat_count (k + 1) set ≡ seat_count k set + bit
 unfolding seat_count
 count_more set k = rw add-one (tally_more k (has set))
 
--- the seats below k are listed behind what the page says, and counted
-pub record Listed (p : Page) (set k : ℕ) (out : List ℕ) (end position : ℕ) : Type 0 where
+-- the seats below k are listed behind what the text says, and counted
+pub record Listed (text : List ℕ) (set k : ℕ) (out : List ℕ) (position : ℕ) : Type 0 where
   pub few : position ≤ k
   pub counted : position ≡ seat_count k set
-  pub written : page out end ≡ put p (seat_list set k)
+  pub written : out ≡ put text (seat_list set k)
 
-pub listed_none : (p : Page) (set : ℕ) {out : List ℕ} {end : ℕ} → page out end ≡ put p [] → Listed p set 0 out end 0
+pub listed_none : (text : List ℕ) (set : ℕ) {out : List ℕ} → out ≡ put text [] → Listed text set 0 out 0
 unfolding seat_list seat_count tally
-listed_none p set s = record { few = omega arith; counted = refl; written = s }
+listed_none text set s = record { few = omega arith; counted = refl; written = s }
 
-module _ {p : Page} {out : List ℕ} {set k end position : ℕ} (i : Listed p set k out end position) where
-  pub listed_in : {after : List ℕ} {next : ℕ} → has set k ≡ true
-      → page after next ≡ put (put (page out end) (comma position)) (decimal k)
-      → Listed p set (k + 1) after next (position + 1)
+module _ {text out : List ℕ} {set k position : ℕ} (i : Listed text set k out position) where
+  pub listed_in : {after : List ℕ} → has set k ≡ true → after ≡ put (put out (comma position)) (decimal k)
+      → Listed text set (k + 1) after (position + 1)
   unfolding seat_list
   listed_in h s = record {
     few = omega arith;
@@ -54,7 +53,7 @@ module _ {p : Page} {out : List ℕ} {set k end position : ℕ} (i : Listed p se
     written = rw (add-one, if_true _ _ h, put-join, ← i.written, ← i.counted) s;
   }
 
-  pub listed_out : has set k ≡ false → Listed p set (k + 1) out end position
+  pub listed_out : has set k ≡ false → Listed text set (k + 1) out position
   unfolding seat_list
   listed_out h = record {
     few = omega arith;

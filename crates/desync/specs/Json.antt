@@ -1,10 +1,8 @@
 -- desync.rs, `DesyncReportJson`: the text of a report, to the byte. Document 01: "Text is as desync.rs prints it".
 -- Assumes nothing.
-use Rattle.std.specs.Prelude.{ℕ, zero, suc, ◌+◌, ◌*◌, min, Bool, true, false, List, [], ◌∷◌, get_or}
+use Rattle.std.specs.Prelude.{ℕ, zero, suc, ◌+◌, ◌*◌, min, Bool, true, false, List, [], ◌∷◌, Option, None, Some, get_or}
 use Rattle.logic.specs.Test.{when◌then◌else◌}
 use Rattle.peer.specs.Seats.{seats, has, seat_count}
-use Rattle.fingerprint.specs.declared.LastAgreed.{LastAgreed}
-use Rattle.fingerprint.specs.declared.LastAgreed.TheVariants.{Never, At}
 use Rattle.stats.specs.declared.SessionStats.{SessionStats}
 use Rattle.text.specs.Ascii.{ascii}
 use Rattle.text.specs.Decimal.{decimal}
@@ -34,9 +32,9 @@ digest_text n = join (ascii "\"0x" ∷ hex16 n ∷ ascii "\"" ∷ [])
 unfoldable pub seat_digest : (there : ℕ) (numbers : List ℕ) (k : ℕ) → List ℕ
 seat_digest there numbers k = when has there k then digest_text (get_or numbers k 0) else ascii "null"
 
-unfoldable pub tick_text : LastAgreed → List ℕ
-tick_text (At tick) = decimal tick
-tick_text Never = ascii "null"
+unfoldable pub tick_text : Option ℕ → List ℕ
+tick_text (Some tick) = decimal tick
+tick_text None = ascii "null"
 
 -- ---- lists
 

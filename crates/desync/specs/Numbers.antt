@@ -1,18 +1,16 @@
 -- Document 01, "Numbers given back": 20, 61 no desync, 62 no room.
 -- Assumes nothing.
 use Rattle.std.specs.Prelude.{ℕ}
-use Rattle.desync.specs.declared.Sought.{Sought}
-use Rattle.desync.specs.declared.Sought.TheVariants as Sought'
-use Rattle.desync.specs.declared.WriteReport.{WriteReport}
-use Rattle.desync.specs.declared.WriteReport.TheVariants as Write'
+use Rattle.desync.specs.declared.ReportError.{ReportError}
+use Rattle.desync.specs.declared.ReportError.TheVariants as Report'
+use Rattle.desync.specs.declared.WriteError.{WriteError}
+use Rattle.desync.specs.declared.WriteError.TheVariants as Write'
 
-abbrev pub sought_no : Sought → ℕ
-sought_no Sought'.BadState = 20
-sought_no Sought'.NoDesync = 61
-sought_no (Sought'.Desynced tick) = 0
+abbrev pub report_error_no : ReportError → ℕ
+report_error_no Report'.BadState = 20
+report_error_no Report'.NoDesync = 61
 
-abbrev pub write_no : WriteReport → ℕ
-write_no Write'.BadState = 20
-write_no Write'.NoDesync = 61
-write_no Write'.NoRoom = 62
-write_no (Write'.Written n) = 0
+abbrev pub write_error_no : WriteError → ℕ
+write_error_no Write'.BadState = 20
+write_error_no Write'.NoDesync = 61
+write_error_no Write'.NoRoom = 62

@@ -1,7 +1,7 @@
 -- Document 01, "Pump and report": "The report takes local values from the cell as it stands (0 when empty), remote ones
 -- only for the tick, and as last agreed the highest own tick below it that no held remote digest denies". And what
 -- desync.rs reads off a report: dissenters, inputs_agree, witnessed. Assumes nothing.
-use Rattle.std.specs.Prelude.{ℕ, Bool, true, false, not, ◌&&◌, List, eqb, get_or}
+use Rattle.std.specs.Prelude.{ℕ, Bool, true, false, not, ◌&&◌, List, Option, None, Some, eqb, get_or}
 use Rattle.logic.specs.Test.{when◌then◌else◌}
 use Rattle.logic.specs.Tabulate.{tabulate}
 use Rattle.peer.specs.Seats.{seats, has, set_of, every, first_seats, removing, is_empty}
@@ -11,8 +11,6 @@ use Rattle.fingerprint.specs.Cells.{own, remote_for}
 use Rattle.fingerprint.specs.LastAgreed.{last_agreed}
 use Rattle.fingerprint.specs.declared.Fingerprint.{Fingerprint}
 use Rattle.fingerprint.specs.declared.Fingerprints.{Fingerprints}
-use Rattle.fingerprint.specs.declared.Cell.{Cell}
-use Rattle.fingerprint.specs.declared.Cell.TheVariants.{Empty, Holds}
 use Rattle.stats.specs.declared.SessionStats.{SessionStats}
 use Rattle.desync.specs.declared.DesyncReport.{DesyncReport}
 use Rattle.desync.specs.declared.Heard.{Heard}
@@ -42,17 +40,17 @@ is_witnessed r = not (is_empty seats r.states_in)
 -- ---- a report is made
 
 -- what a cell holds; zeros when it is empty
-abbrev pub print_in : Cell → Fingerprint
-print_in Empty = record { tick = 0; state = 0; input = 0 }
-print_in (Holds f) = f
+abbrev pub print_in : Option Fingerprint → Fingerprint
+print_in None = record { tick = 0; state = 0; input = 0 }
+print_in (Some f) = f
 
-abbrev pub is_held : Cell → Bool
-is_held Empty = false
-is_held (Holds f) = true
+abbrev pub is_held : Option Fingerprint → Bool
+is_held None = false
+is_held (Some f) = true
 
 -- what seat k reported for that very tick, if it is a remote
-unfoldable pub heard_from : (remotes : ℕ) → Fingerprints → (tick k : ℕ) → Cell
-heard_from remotes prints tick k = when has remotes k then remote_for prints k tick else Empty
+unfoldable pub heard_from : (remotes : ℕ) → Fingerprints → (tick k : ℕ) → Option Fingerprint
+heard_from remotes prints tick k = when has remotes k then remote_for prints k tick else None
 
 -- the same of all seats: which have reported, and their states and inputs, zero where they have not
 unfoldable pub heard_all : (remotes : ℕ) → Fingerprints → (tick : ℕ) → Heard

@@ -5,13 +5,4 @@ use Rattle.desync.proofs.counters.Goals as goal
 
 pub returns : goal.returns
 unfolding stats_text
-returns c =
-    rw (
-      put-join,
-      ← c.number-end.ensures,
-      ← c.number-end-2.ensures,
-      ← c.number-end-3.ensures,
-      ← c.number-end-4.ensures,
-      ← c.number-end-5.ensures,
-      ← c.number-end-6.ensures,
-    ) c.piece.ensures
+returns c = rw (c.piece.ensures, c.number-6.ensures, c.number-5.ensures, c.number-4.ensures, c.number-3.ensures, c.number-2.ensures, c.number.ensures, put-join)

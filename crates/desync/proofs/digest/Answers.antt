@@ -5,10 +5,4 @@ use Rattle.desync.proofs.digest.Goals as goal
 
 pub returns : goal.returns
 unfolding digest_text
-returns c =
-    rw (
-      put-join,
-      ← c.piece-named.ensures,
-      ← c.piece-quoted.ensures,
-      ← c.hex16-digits.ensures,
-    ) c.piece.ensures
+returns c = rw (c.piece-3.ensures, c.hex16.ensures, c.piece-2.ensures, c.piece.ensures, put-join)

@@ -6,7 +6,7 @@ use Rattle.peer.specs.Seats.{seats}
 use Rattle.peer.proofs.Loops.{built_none, built_with, built_skip, built_all}
 use Rattle.desync.specs.Report.{heard_all}
 use Rattle.desync.proofs.heard_all.Goals as goal
-use Rattle.desync.proofs.heard_all.Goals.{then-is_held, else-is_held}
+use Rattle.desync.proofs.heard_all.Goals.{then-is_some, else-is_some}
 
 pub loop-seat-init : goal.loop-seat-init
 loop-seat-init c = (sym (built_none _ _), filled_none refl, filled_none refl)
@@ -14,16 +14,18 @@ loop-seat-init c = (sym (built_none _ _), filled_none refl, filled_none refl)
 pub loop-seat-preserved : goal.loop-seat-preserved
 loop-seat-preserved c =
     let i = c.loop-seat.invariant in (
-      elim c.if-is_held.branch [
-        | then-is_held w ↦
+      elim c.if-is_some.branch [
+        | then-is_some w ↦
             rw (w.there-is, w.with-there.ensures, i.0)
-            (built_with seats _ _ (rw (← c.heard_from-cell.ensures) (sym c.is_held.ensures ∙ w.if-is_held.true)))
-        | else-is_held w ↦
+            (built_with seats _ _ (rw (← c.heard_from-cell.ensures) (sym c.is_some.ensures ∙ w.if-is_some.true)))
+        | else-is_some w ↦
             rw (w.there-is, i.0)
-            (built_skip seats _ _ (rw (← c.heard_from-cell.ensures) (sym c.is_held.ensures ∙ w.if-is_held.false)))
+            (built_skip seats _ _ (rw (← c.heard_from-cell.ensures) (sym c.is_some.ensures ∙ w.if-is_some.false)))
       ],
-      filled_more i.1 (omega arith) (rw (c.print_in-print.ensures, c.heard_from-cell.ensures)),
-      filled_more i.2 (omega arith) (rw (c.print_in-print.ensures, c.heard_from-cell.ensures)),
+      rw c.from.ensures
+          (filled_more i.1 (omega arith) (rw (c.print_in-print.ensures, c.heard_from-cell.ensures))),
+      rw c.from-in-loop-seat.ensures
+          (filled_more i.2 (omega arith) (rw (c.print_in-print.ensures, c.heard_from-cell.ensures))),
     )
 
 pub returns : goal.returns

@@ -1,13 +1,8 @@
 use mathlib.Core.Path.{◌≡◌}
-use Prim.Native.Nat.{◌≤◌, ◌-◌}
 use Rattle.peer.specs.Seats.{seats}
 use Rattle.peer.proofs.Loops.{built}
 use Rattle.desync.specs.Report.{differs}
 use Rattle.desync.proofs.unlike.Given as goal
 
 abbrev pub invariant-loop-seat : goal.invariant-loop-seat
-invariant-loop-seat l =
-    (l.seat ≤ seats) × (l.set.0 ≡ built seats (differs l.asked.0 l.there.0 l.numbers l.own) l.seat)
-
-abbrev pub decreases-loop-seat : goal.decreases-loop-seat
-decreases-loop-seat l = seats - l.seat
+invariant-loop-seat l = l.set.0 ≡ built seats (differs l.asked.0 l.there.0 l.numbers l.own) l.seat

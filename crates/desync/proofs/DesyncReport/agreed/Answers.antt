@@ -5,10 +5,4 @@ use Rattle.desync.proofs.DesyncReport.agreed.Goals as goal
 
 pub returns : goal.returns
 unfolding agreed_text
-returns c =
-    rw (
-      put-join,
-      ← c.digest-agreement.ensures,
-      ← c.digest-content.ensures,
-      ← c.digest-rules.ensures,
-    ) c.number.ensures
+returns c = rw (c.number.ensures, c.digest-3.ensures, c.digest-2.ensures, c.digest.ensures, put-join)

@@ -5,5 +5,4 @@ use Rattle.desync.proofs.DesyncReport.head.Goals as goal
 
 pub returns : goal.returns
 unfolding head_text
-returns c =
-    rw (put-join, ← c.number-tick.ensures, ← c.number-local.ensures) c.number.ensures
+returns c = rw (c.number-3.ensures, c.from-2.ensures, c.number-2.ensures, c.from.ensures, c.number.ensures, put-join)

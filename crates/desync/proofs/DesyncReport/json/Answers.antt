@@ -1,6 +1,6 @@
 -- `desync::DesyncReport::json` meets its contract: six texts, and the types of the numbers say that they fit. Assumes
 -- nothing.
-use borrow.Author.Rules.{rules}
+use Rattle.std.proofs.Common.{rules}
 use Rattle.text.proofs.Writing.{put-join}
 use Rattle.desync.specs.Json.{report_text}
 use Rattle.desync.proofs.Laws.{report_length}
@@ -12,11 +12,11 @@ returns c = record {
   writes =
       rw (
         put-join,
-        ← c.head-head.ensures,
-        ← c.verdict-verdict.ensures,
-        ← c.own-own.ensures.writes,
-        ← c.lists-lists.ensures,
-        ← c.agreed-agreed.ensures,
+        ← c.head.ensures,
+        ← c.verdict.ensures,
+        ← c.own.ensures.writes,
+        ← c.lists.ensures,
+        ← c.agreed.ensures,
       ) c.counters.ensures;
-  within_report_most = report_length c.args.self (search (rules, c.own-own.ensures.last_tick_within_20));
+  within_report_most = report_length c.args.self (search (rules, c.own.ensures.last_tick_within_20));
 }

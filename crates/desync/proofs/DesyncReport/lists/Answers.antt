@@ -5,5 +5,4 @@ use Rattle.desync.proofs.DesyncReport.lists.Goals as goal
 
 pub returns : goal.returns
 unfolding lists_text
-returns c =
-    rw (put-join, ← c.dissenters.ensures, ← c.seat_list-dissent.ensures) c.peers.ensures
+returns c = rw (c.peers.ensures, c.seat_list.ensures, c.dissenters.ensures, put-join)

@@ -3,11 +3,6 @@ use Rattle.text.proofs.Writing.{put-join}
 use Rattle.desync.specs.Json.{own_text}
 use Rattle.desync.proofs.DesyncReport.own.Goals as goal
 
-pub returns : goal.returns
+pub returns-clause-writes : goal.returns-clause-writes
 unfolding own_text
-returns c =
-    let last = c.last_tick.ensures in
-    record {
-      writes = rw (put-join, ← c.digest-state.ensures, ← c.digest-input.ensures) last.writes;
-      last_tick_within_20 = last.tick_within_20;
-    }
+returns-clause-writes c = rw (c.last_tick.ensures.writes, c.digest-2.ensures, c.digest.ensures, put-join)

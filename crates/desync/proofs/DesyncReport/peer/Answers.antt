@@ -5,11 +5,4 @@ use Rattle.desync.proofs.DesyncReport.peer.Goals as goal
 
 pub returns : goal.returns
 unfolding peer_text
-returns c =
-    rw (
-      put-join,
-      ← c.comma-next.ensures,
-      ← c.number-named.ensures,
-      ← c.seat_digest-stated.ensures,
-      ← c.seat_digest-pressed.ensures,
-    ) c.piece.ensures
+returns c = rw (c.piece.ensures, c.seat_digest-2.ensures, c.seat_digest.ensures, c.number.ensures, c.from.ensures, c.comma.ensures, put-join)

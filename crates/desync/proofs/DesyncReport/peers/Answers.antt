@@ -10,16 +10,13 @@ use Rattle.desync.proofs.DesyncReport.peers.Goals as goal
 
 pub loop-seat-init : goal.loop-seat-init
 unfolding peer_list
-loop-seat-init c = (omega arith, put_on _ _ c.piece-end.ensures)
+loop-seat-init c = put_on _ _ c.piece.ensures
 
 pub loop-seat-preserved : goal.loop-seat-preserved
 unfolding peer_list
-loop-seat-preserved c =
-    let i = c.loop-seat.invariant.1 in
-    (omega arith, rw (add-one, put-join, ← i) c.peer-end.ensures)
+loop-seat-preserved c = rw (add-one, put-join, ← c.loop-seat.invariant) c.peer.ensures
 
 pub returns : goal.returns
 returns c =
-    let r = c.args.self in
-    let all : c.loop-seat.seat ≡ min r.peer_count seats = omega arith in
-    rw c.piece-end.ensures at (rw all at c.loop-seat.invariant.1)
+    let all : c.loop-seat.seat ≡ min c.args.self.now.peer_count seats = omega arith in
+    rw c.piece.ensures at (rw all at c.loop-seat.invariant)

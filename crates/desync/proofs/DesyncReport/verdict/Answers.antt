@@ -5,10 +5,4 @@ use Rattle.desync.proofs.DesyncReport.verdict.Goals as goal
 
 pub returns : goal.returns
 unfolding verdict_text
-returns c =
-    rw (
-      put-join,
-      ← c.inputs_agree.ensures,
-      ← c.flag-agree.ensures,
-      ← c.witnessed.ensures,
-    ) c.flag.ensures
+returns c = rw (c.flag-2.ensures, c.witnessed.ensures, c.flag.ensures, c.inputs_agree.ensures, put-join)
