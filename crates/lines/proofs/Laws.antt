@@ -1,17 +1,32 @@
--- Laws of the lines: a step's fields row by row.
--- Assumes nothing.
+-- Laws of the lines: a step's fields row by row, and what the search proves the writers by. Assumes nothing.
 use Prim.Native.Nat.{ℕ, zero, suc, ◌+◌, ◌-◌, ◌≤◌, ◌<◌, min}
-use mathlib.Core.Path.{◌≡◌, refl}
+use mathlib.Core.Path.{◌≡◌, refl, sym, ◌∙◌}
 use mathlib.Core.Bool.{Bool, true, false}
-use mathlib.Core.List.{List, [], ◌++◌}
+use mathlib.Core.List.{List, [], ◌∷◌, ◌++◌}
 use native.Mathlib.Numerals.{add-one}
 use native.Mathlib.Omega.{arith}
 use lib.ListN.{length, drop, get_or, drop_of_length-le}
 use lib.Seq.{drop-cons}
 use Rattle.logic.proofs.Cases.{case_lt}
-use Rattle.text.proofs.Writing.{join-length, put_one}
+use Rattle.text.specs.Text.{put, join, puts, total}
+use Rattle.text.proofs.Writing.{put-join, join-length, put_said}
 use Rattle.text.proofs.Decimals.{decimal_20}
-use Rattle.lines.specs.Lines.{Says, numbered, flag_text, field_text, field_texts}
+use Rattle.lines.specs.Lines.{Says, line_limit, numbered, flag_text, field_text, field_texts}
+use Rattle.lines.specs.Lines.{open_line, deliver_line, commit_line, leave_line, advance_line, bad_line, none_line, cut_line}
+use Rattle.lines.specs.Lines.{outcome_text, body_text, ready_line}
+
+-- what a line is defined by, as one name: under it the search proves most of the crate
+unfoldable pub lines : Unit {0}
+unfolding flag_text outcome_text body_text ready_line
+    open_line deliver_line commit_line leave_line advance_line bad_line none_line cut_line
+lines = tt
+
+-- two laws of texts by names that a `using` of the source can say
+pub written : (text q : List ℕ) (qs : List (List ℕ)) → put text (join (q ∷ qs)) ≡ puts (put text q) qs
+written = put-join
+
+pub of_length : (ps : List (List ℕ)) → length (join ps) ≡ total ps
+of_length = join-length
 
 fields_nil : (count width : ℕ) → field_texts count width [] ≡ []
 unfolding field_texts
@@ -45,6 +60,10 @@ pub numbered-length : (name : List ℕ) (n : ℕ) → length name ≤ 16 → n <
 unfolding numbered
 numbered-length name n h l = rw join-length (omega (arith, decimal_20 n (omega arith)))
 
--- the promise fixes the length and every lent byte: two answers that meet it are equal
-pub says_one : {line before a b : List ℕ} {m n : ℕ} → Says line before a m → Says line before b n → (m ≡ n) × (a ≡ b)
-says_one x y = put_one x.said y.said
+-- what was written into a text that was cleared is the line
+pub says : {line begun text : List ℕ} → begun ≡ [] → text ≡ put begun line → length line ≤ line_limit → Says line text
+says {line} {begun} {text} e w h = record { said = put_said line (omega arith) (rw e at w); fits = h }
+
+-- the promise fixes the text: two that meet it are equal
+pub says_one : {line a b : List ℕ} → Says line a → Says line b → a ≡ b
+says_one x y = x.said ∙ sym y.said

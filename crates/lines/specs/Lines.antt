@@ -1,34 +1,28 @@
 -- Document 01, "The script runner `circle`", "Lines": the line of each answer. 20 is no answer that a script gets, as
 -- only a good open makes a session; its lines are the call's name and the number. Assumes nothing.
 use Rattle.std.specs.Prelude.{ℕ, zero, suc, ◌+◌, ◌≤◌, ◌≡◌, Bool, true, false, List, [], ◌∷◌, ◌++◌, length, take}
+use Rattle.std.specs.Prelude.{Result, Ok, Err}
 use Rattle.text.specs.Ascii.{ascii}
-use Rattle.text.specs.Text.{page, put, join}
+use Rattle.text.specs.Text.{join}
 use Rattle.text.specs.Decimal.{decimal}
 use Rattle.text.specs.Hex.{hex_bytes}
 use Rattle.params.specs.Params.{validity_no}
-use Rattle.params.specs.declared.Validity.{Validity}
+use Rattle.params.specs.declared.ParamsError.{ParamsError}
+use Rattle.params.specs.declared.BadState.{BadState}
 use Rattle.wire.specs.declared.Body.{Body}
 use Rattle.wire.specs.declared.Body.TheVariants as Body'
-use Rattle.session.specs.Numbers.{submit_no, commit_no}
+use Rattle.session.specs.Numbers.{Submit, submit_no, Commit, commit_no, Leave}
 use Rattle.session.specs.declared.Outcome.{Outcome}
 use Rattle.session.specs.declared.Outcome.TheVariants.{Desynced, PeerLeft, LeftLocally}
-use Rattle.session.specs.declared.Submit.{Submit}
-use Rattle.session.specs.declared.Submit.TheVariants as Submit'
-use Rattle.session.specs.declared.Commit.{Commit}
 use Rattle.session.specs.declared.Step.{Step}
 use Rattle.session.specs.declared.Advance.{Advance}
 use Rattle.session.specs.declared.Advance.TheVariants as Advance'
-use Rattle.session.specs.declared.Leave.{Leave}
-use Rattle.session.specs.declared.Leave.TheVariants as Leave'
 use Rattle.deliver.specs.Numbers.{delivery_no}
 use Rattle.deliver.specs.declared.Delivery.{Delivery}
-use Rattle.desync.specs.Numbers.{sought_no}
+use Rattle.desync.specs.Numbers.{report_error_no}
 use Rattle.desync.specs.Json.{report_most, report_text}
-use Rattle.desync.specs.declared.Sought.{Sought}
-use Rattle.desync.specs.declared.Sought.TheVariants as Sought'
+use Rattle.desync.specs.declared.ReportError.{ReportError}
 use Rattle.desync.specs.declared.DesyncReport.{DesyncReport}
-use Rattle.shown.specs.declared.Ready.{Ready}
-use Rattle.shown.specs.declared.Ready.TheVariants as Ready'
 use Rattle.pump.specs.declared.Outbound.{Outbound}
 use Rattle.pump.specs.declared.Outbound.TheVariants as Outbound'
 
@@ -36,9 +30,9 @@ use Rattle.pump.specs.declared.Outbound.TheVariants as Outbound'
 abbrev pub line_limit : ℕ
 line_limit = report_most + 1
 
--- the line, whole, at the front of the buffer, and the bytes past it as they were
-pub record Says (line before after : List ℕ) (n : ℕ) : Type 0 where
-  pub said : page after n ≡ put (page before 0) line
+-- the text is the line, whole
+pub record Says (line text : List ℕ) : Type 0 where
+  pub said : text ≡ line
   pub fits : length line ≤ line_limit
 
 -- a name and a number
@@ -60,16 +54,13 @@ unfoldable pub cut_line : List ℕ
 cut_line = ascii "cut\n"
 
 -- `open N`
-unfoldable pub open_line : Validity → List ℕ
+unfoldable pub open_line : Result (Unit {0}) ParamsError → List ℕ
 open_line answer = numbered (ascii "open ") (validity_no answer)
 
 -- `submit 0 TICK` or `submit N`
 unfoldable pub accepted_text : Submit → List ℕ
-accepted_text (Submit'.Accepted tick) = join (ascii " " ∷ decimal tick ∷ [])
-accepted_text (Submit'.Ended o) = []
-accepted_text Submit'.BadState = []
-accepted_text (Submit'.WrongWidth saw agreed) = []
-accepted_text (Submit'.WindowFull tick pending) = []
+accepted_text (Ok tick) = join (ascii " " ∷ decimal tick ∷ [])
+accepted_text (Err why) = []
 
 unfoldable pub submit_line : Submit → List ℕ
 submit_line answer = join (ascii "submit " ∷ decimal (submit_no answer) ∷ accepted_text answer ∷ ascii "\n" ∷ [])
@@ -120,14 +111,13 @@ commit_line answer = numbered (ascii "commit ") (commit_no answer)
 
 -- leave prints `ended ..` too
 unfoldable pub leave_line : Leave → List ℕ
-leave_line (Leave'.Ended o) = ended_line o
-leave_line Leave'.BadState = numbered (ascii "leave ") 20
+leave_line (Ok o) = ended_line o
+leave_line (Err bad) = numbered (ascii "leave ") 20
 
 -- the JSON or `report N`
-unfoldable pub report_line : Sought → DesyncReport → List ℕ
-report_line Sought'.BadState report = numbered (ascii "report ") (sought_no Sought'.BadState)
-report_line Sought'.NoDesync report = numbered (ascii "report ") (sought_no Sought'.NoDesync)
-report_line (Sought'.Desynced tick) report = join (report_text report ∷ ascii "\n" ∷ [])
+unfoldable pub report_line : Result DesyncReport ReportError → List ℕ
+report_line (Ok report) = join (report_text report ∷ ascii "\n" ∷ [])
+report_line (Err why) = numbered (ascii "report ") (report_error_no why)
 
 -- `send PEER KIND TICK COUNT`: kind as in the script, for Inputs the first tick; 0 where the message has none
 unfoldable pub body_text : Body → List ℕ
@@ -145,6 +135,6 @@ send_line Outbound'.Nothing = numbered (ascii "send ") 71
 send_line Outbound'.BadState = numbered (ascii "send ") 20
 
 -- K1: `ready N`, or `ready none` where there is no session to ask
-unfoldable pub ready_line : Ready → List ℕ
-ready_line (Ready'.Ticks n) = join (ascii "ready " ∷ decimal n ∷ ascii "\n" ∷ [])
-ready_line Ready'.BadState = ascii "ready none\n"
+unfoldable pub ready_line : Result ℕ BadState → List ℕ
+ready_line (Ok n) = join (ascii "ready " ∷ decimal n ∷ ascii "\n" ∷ [])
+ready_line (Err bad) = ascii "ready none\n"

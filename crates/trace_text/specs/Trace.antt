@@ -1,7 +1,7 @@
 -- What the trace form prints beside the runner's lines, for a comparison of whole sessions: after `send` the message
 -- whole, and after every record all six counters, pending, next local tick, playing, `wants_local`, input digest and
 -- outcome. A truth is 1 or 0, and no outcome is `0 - 0`. Assumes nothing.
-use Rattle.std.specs.Prelude.{ℕ, ◌*◌, Bool, List, [], ◌∷◌, ◌++◌, take}
+use Rattle.std.specs.Prelude.{ℕ, ◌*◌, Bool, List, [], ◌∷◌, ◌++◌, take, Option, None, Some}
 use Rattle.logic.specs.Test.{when◌then◌else◌}
 use Rattle.text.specs.Ascii.{ascii}
 use Rattle.text.specs.Text.{join}
@@ -13,8 +13,7 @@ use Rattle.wire.specs.declared.Body.{Body}
 use Rattle.wire.specs.declared.Body.TheVariants.{Hello, Inputs, Digest, Bye, Other}
 use Rattle.wire.specs.declared.Message.{Message}
 use Rattle.stats.specs.declared.SessionStats.{SessionStats}
-use Rattle.session.specs.declared.Standing.{Standing}
-use Rattle.session.specs.declared.Standing.TheVariants.{Open, Over}
+use Rattle.session.specs.declared.Outcome.{Outcome}
 use Rattle.pump.specs.declared.Outbound.{Outbound}
 use Rattle.pump.specs.declared.Outbound.TheVariants.{Send, Nothing, BadState}
 use Rattle.lines.specs.Lines.{flag_text, outcome_text, send_line}
@@ -57,16 +56,17 @@ send_lines answer run traced = send_line answer ++ (when traced then sent_line a
 
 -- ---- a session
 
-unfoldable pub standing_text : Standing → List ℕ
-standing_text Open = ascii "0 - 0"
-standing_text (Over o) = outcome_text o
+unfoldable pub standing_text : Option Outcome → List ℕ
+standing_text None = ascii "0 - 0"
+standing_text (Some o) = outcome_text o
 
 unfoldable pub counters_text : SessionStats → List ℕ
 counters_text s =
     join (decimal s.datagrams_refused ∷ spaced s.frames_repeated ∷ spaced s.frames_contradicted
     ∷ spaced s.frames_out_of_window ∷ spaced s.digests_contradicted ∷ spaced s.stall_pumps ∷ [])
 
-unfoldable pub state_line : SessionStats → (pending next : ℕ) → (playing wants : Bool) → (digest : ℕ) → Standing → List ℕ
+unfoldable pub state_line : SessionStats → (pending next : ℕ) → (playing wants : Bool) → (digest : ℕ) → Option Outcome
+    → List ℕ
 state_line stats pending next playing wants digest outcome =
     join (ascii "= " ∷ counters_text stats ∷ spaced pending ∷ spaced next ∷ ascii " " ∷ flag_text playing ∷ ascii " "
     ∷ flag_text wants ∷ spaced digest ∷ ascii " " ∷ standing_text outcome ∷ ascii "\n" ∷ [])

@@ -1,178 +1,161 @@
 // The trace form of a script's lines: every message whole, and after each record what the session shows. Programs are
-// held against each other by it. All goes into the buffer that has the record's line.
-#![tactic(auto)]
+// held against each other by it. All goes behind the record's line.
+#![tactic(auto, using(lines::proofs::Laws::written, lines::proofs::Laws::of_length, text::proofs::Decimals::decimal_20, crate::proofs::Laws::spaced_short, lines::proofs::Laws::flag_one), unfolding(crate::proofs::Laws::parts))]
 
 ghost use Rattle.std.specs.Prelude.{◌*◌, ◌≤◌, min, ◌≡◌, length};
-ghost use Rattle.text.specs.Text.{page, put};
+ghost use Rattle.text.specs.Text.{put};
 ghost use Rattle.lines.specs.Lines.{Says};
 ghost use Rattle.trace_text.specs.Trace.{spaced, hello_whole, inputs_whole, body_whole, message_whole};
 ghost use Rattle.trace_text.specs.Trace.{sent_line, send_lines, standing_text, counters_text, state_line};
 
 use lines::{flag, outcome};
-use logic::{least, long, wide};
-use pump::Outbound;
-use session::Standing;
+use pump::{Outbound, Run};
+use session::Outcome;
 use stats::SessionStats;
+use text::Text;
 use wire::{Body, HelloBody, InputsBody, Message};
 
 // A number after a blank.
-fn spaced(out: &mut [u8; text::LIMIT], at: usize, n: u64) -> usize
-    ensures { page out.new result ≡ put (page out.old at) (spaced n) }
+#[tactic(auto, using(lines::proofs::Laws::written), unfolding(crate::specs::Trace::spaced))]
+fn spaced(out: &mut Text, n: u64)
+    ensures { out.new ≡ put out.old (spaced n) }
 {
-    let end = text::byte(out, at, b' ');
-    text::decimal(out, end, n)
+    out.byte(b' ');
+    out.decimal(n);
 }
 
-fn hello_whole(out: &mut [u8; text::LIMIT], at: usize, b: HelloBody) -> usize
-    ensures writes { page out.new result ≡ put (page out.old at) (hello_whole b) }
+fn hello_whole(out: &mut Text, b: HelloBody)
+    ensures writes { out.new ≡ put out.old (hello_whole b) }
     ensures within { length (hello_whole b) ≤ 168 }
 {
-    let mut end = spaced(out, at, b.agreement);
-    end = spaced(out, end, b.content);
-    end = spaced(out, end, b.rules);
-    end = spaced(out, end, b.seed);
-    end = spaced(out, end, long(b.count));
-    end = spaced(out, end, long(b.width));
-    end = spaced(out, end, long(b.delay));
-    spaced(out, end, long(b.period))
+    spaced(out, b.agreement);
+    spaced(out, b.content);
+    spaced(out, b.rules);
+    spaced(out, b.seed);
+    spaced(out, u64::from(b.count));
+    spaced(out, u64::from(b.width));
+    spaced(out, u64::from(b.delay));
+    spaced(out, u64::from(b.period));
 }
 
 fn run_size(count: u8, width: u8) -> usize
     ensures { result ≡ min (count * width) 128 }
 {
-    least(wide(count) * wide(width), pump::RUN)
+    (usize::from(count) * usize::from(width)).min(pump::RUN)
 }
 
-fn inputs_whole(
-    out: &mut [u8; text::LIMIT],
-    at: usize,
-    b: InputsBody,
-    run: [u8; pump::RUN],
-) -> usize
-    ensures writes { page out.new result ≡ put (page out.old at) (inputs_whole b run) }
+fn inputs_whole(out: &mut Text, b: InputsBody, run: Run)
+    ensures writes { out.new ≡ put out.old (inputs_whole b run) }
     ensures within { length (inputs_whole b run) ≤ 320 }
 {
-    let n = run_size(b.count, b.width);
-    let mut end = spaced(out, at, b.first);
-    end = spaced(out, end, long(b.count));
-    end = spaced(out, end, long(b.width));
-    end = text::byte(out, end, b' ');
-    text::hex_bytes(out, end, &run[..n])
+    spaced(out, b.first);
+    spaced(out, u64::from(b.count));
+    spaced(out, u64::from(b.width));
+    out.byte(b' ');
+    out.hex_bytes(&run[..run_size(b.count, b.width)]);
 }
 
 // What a message holds, its run too.
-fn body_whole(out: &mut [u8; text::LIMIT], at: usize, body: Body, run: [u8; pump::RUN]) -> usize
-    ensures writes { page out.new result ≡ put (page out.old at) (body_whole body run) }
+fn body_whole(out: &mut Text, body: Body, run: Run)
+    ensures writes { out.new ≡ put out.old (body_whole body run) }
     ensures within { length (body_whole body run) ≤ 320 }
 {
     match body {
-        Body::Hello(b) => hello_whole(out, at, b),
-        Body::Inputs(b) => inputs_whole(out, at, b, run),
+        Body::Hello(b) => hello_whole(out, b),
+        Body::Inputs(b) => inputs_whole(out, b, run),
         Body::Digest(b) => {
-            let tick = spaced(out, at, b.tick);
-            let state = spaced(out, tick, b.state);
-            spaced(out, state, b.input)
+            spaced(out, b.tick);
+            spaced(out, b.state);
+            spaced(out, b.input);
         }
-        Body::Bye(b) => spaced(out, at, b.tick),
-        Body::Other(kind) => spaced(out, at, long(kind)),
+        Body::Bye(b) => spaced(out, b.tick),
+        Body::Other(kind) => spaced(out, u64::from(kind)),
     }
 }
 
-fn message_whole(out: &mut [u8; text::LIMIT], at: usize, m: Message, run: [u8; pump::RUN]) -> usize
-    ensures writes { page out.new result ≡ put (page out.old at) (message_whole m run) }
+fn message_whole(out: &mut Text, m: Message, run: Run)
+    ensures writes { out.new ≡ put out.old (message_whole m run) }
     ensures within { length (message_whole m run) ≤ 384 }
 {
-    let body = m.body;
-    let sender = text::decimal(out, at, long(m.sender));
-    let session = spaced(out, sender, m.session);
-    body_whole(out, session, body, run)
+    out.decimal(u64::from(m.sender));
+    spaced(out, m.session);
+    body_whole(out, m.body, run);
 }
 
-// The trace form of a message that went out; nothing where none did.
-fn sent_line(
-    out: &mut [u8; text::LIMIT],
-    at: usize,
-    answer: Outbound,
-    run: [u8; pump::RUN],
-) -> usize
-    ensures writes { page out.new result ≡ put (page out.old at) (sent_line answer run) }
+// What a pump prints: its line and, in the trace form, the message that went out, if one did.
+pub fn send_lines(out: &mut Text, answer: Outbound, run: Run, traced: bool)
+    ensures { Says (send_lines answer run traced) out.new }
+{
+    lines::send_line(out, answer);
+    if traced {
+        sent_line(out, answer, run);
+    }
+}
+
+// The trace form of a message that went out. Where none did an empty piece is written: of a text that is not written no
+// clause knows that it is within its limit.
+fn sent_line(out: &mut Text, answer: Outbound, run: Run)
+    ensures writes { out.new ≡ put out.old (sent_line answer run) }
     ensures within { length (sent_line answer run) ≤ 400 }
 {
     match answer {
         Outbound::Send { peer: _, message } => {
-            let begun = text::piece(out, at, b"> ");
-            let end = message_whole(out, begun, message, run);
-            text::byte(out, end, b'\n')
+            out.piece(b"> ");
+            message_whole(out, message, run);
+            out.byte(b'\n');
         }
-        Outbound::Nothing => text::piece(out, at, b""),
-        Outbound::BadState => text::piece(out, at, b""),
+        Outbound::Nothing | Outbound::BadState => out.piece(b""),
     }
 }
 
-// What a pump prints: its line and, in the trace form, the message.
-pub fn send_lines(
-    out: &mut [u8; text::LIMIT],
-    answer: Outbound,
-    run: [u8; pump::RUN],
-    traced: bool,
-) -> usize
-    ensures { Says (send_lines answer run traced) out.old out.new result }
-{
-    let line = lines::send_line(out, answer);
-    if traced {
-        return sent_line(out, line, answer, run);
-    }
-    line
-}
-
-fn standing(out: &mut [u8; text::LIMIT], at: usize, standing: Standing) -> usize
-    ensures writes { page out.new result ≡ put (page out.old at) (standing_text standing) }
+fn standing(out: &mut Text, standing: Option<Outcome>)
+    ensures writes { out.new ≡ put out.old (standing_text standing) }
     ensures within { length (standing_text standing) ≤ 64 }
 {
     match standing {
-        Standing::Open => text::piece(out, at, b"0 - 0"),
-        Standing::Over(o) => outcome(out, at, o),
+        Some(o) => outcome(out, o),
+        None => out.piece(b"0 - 0"),
     }
 }
 
-fn counters(out: &mut [u8; text::LIMIT], at: usize, s: SessionStats) -> usize
-    ensures writes { page out.new result ≡ put (page out.old at) (counters_text s) }
+fn counters(out: &mut Text, s: SessionStats)
+    ensures writes { out.new ≡ put out.old (counters_text s) }
     ensures within { length (counters_text s) ≤ 128 }
 {
-    let mut end = text::decimal(out, at, s.datagrams_refused);
-    end = spaced(out, end, s.frames_repeated);
-    end = spaced(out, end, s.frames_contradicted);
-    end = spaced(out, end, s.frames_out_of_window);
-    end = spaced(out, end, s.digests_contradicted);
-    spaced(out, end, s.stall_pumps)
+    out.decimal(s.datagrams_refused);
+    spaced(out, s.frames_repeated);
+    spaced(out, s.frames_contradicted);
+    spaced(out, s.frames_out_of_window);
+    spaced(out, s.digests_contradicted);
+    spaced(out, s.stall_pumps);
 }
 
-// The trace form of what a session shows, behind the first `at` bytes.
+// The trace form of what a session shows, in the order in which it is written. The values stand side by side: a struct
+// for them would be made in the one call and taken apart here, with as many names in each, and be no plainer.
 pub fn state_line(
-    out: &mut [u8; text::LIMIT],
-    at: usize,
+    out: &mut Text,
     stats: SessionStats,
     pending: u64,
     next: u64,
     playing: bool,
     wants: bool,
     digest: u64,
-    outcome: Standing,
-) -> usize
-    ensures writes { page out.new result
-        ≡ put (page out.old at) (state_line stats pending next playing wants digest outcome) }
+    outcome: Option<Outcome>,
+)
+    ensures writes { out.new
+        ≡ put out.old (state_line stats pending next playing wants digest outcome) }
     ensures within { length (state_line stats pending next playing wants digest outcome) ≤ 400 }
 {
-    let mut end = text::piece(out, at, b"= ");
-    end = counters(out, end, stats);
-    end = spaced(out, end, pending);
-    end = spaced(out, end, next);
-    end = text::byte(out, end, b' ');
-    end = flag(out, end, playing);
-    end = text::byte(out, end, b' ');
-    end = flag(out, end, wants);
-    end = spaced(out, end, digest);
-    end = text::byte(out, end, b' ');
-    end = standing(out, end, outcome);
-    text::byte(out, end, b'\n')
+    out.piece(b"= ");
+    counters(out, stats);
+    spaced(out, pending);
+    spaced(out, next);
+    out.byte(b' ');
+    flag(out, playing);
+    out.byte(b' ');
+    flag(out, wants);
+    spaced(out, digest);
+    out.byte(b' ');
+    standing(out, outcome);
+    out.byte(b'\n');
 }

@@ -1,13 +1,12 @@
 -- `lines::ended` meets its contract. Assumes nothing.
-use native.Mathlib.Omega.{arith}
+use Rattle.std.proofs.Common.{arith}
 use Rattle.text.proofs.Writing.{put-join, join-length}
 use Rattle.lines.specs.Lines.{ended_line}
+use Rattle.lines.proofs.Laws.{says}
 use Rattle.lines.proofs.ended.Goals as goal
 
 pub returns : goal.returns
 unfolding ended_line
 returns c =
-    record {
-      said = rw (put-join, ← c.piece-named.ensures, ← c.outcome-end.ensures.writes) c.byte.ensures;
-      fits = rw join-length (omega (arith, c.outcome-end.ensures.within));
-    }
+    says c.clear.ensures (rw (put-join, ← c.piece.ensures, ← c.outcome.ensures.writes) c.byte.ensures)
+    (rw join-length (omega (arith, c.outcome.ensures.within)))

@@ -1,21 +1,22 @@
 -- `lines::report_line` meets its contract. Assumes nothing.
-use native.Mathlib.Omega.{arith}
-use Rattle.text.proofs.Writing.{put-join, join-length}
-use Rattle.lines.specs.Lines.{report_line}
+use Rattle.std.proofs.Common.{◌≤◌, [], ◌∷◌, length, ◌∙◌, arith}
+use Rattle.text.specs.Ascii.{ascii}
+use Rattle.text.specs.Text.{join}
+use Rattle.text.proofs.Writing.{put_both, join-length}
+use Rattle.desync.specs.Json.{report_text}
+use Rattle.lines.specs.Lines.{line_limit, report_line}
 use Rattle.lines.proofs.report_line.Goals as goal
 
-pub returns-in-BadState : goal.returns-in-BadState
-unfolding report_line
-returns-in-BadState c = rw c.in-BadState.is c.numbered.ensures
+pub returns-in-Ok : goal.returns-in-Ok
+unfolding report_line join
+returns-in-Ok c =
+    let json = c.json.ensures in
+    let written = rw (json.writes, c.clear.ensures) at c.byte.ensures in
+    let line : length (join (report_text c.in-Ok.report ∷ ascii "\n" ∷ [])) ≤ line_limit =
+    rw join-length (omega (arith, json.within_report_most)) in
+    let both = put_both (report_text c.in-Ok.report) (ascii "\n") (omega (arith, json.within_report_most)) in
+    rw c.in-Ok.is (record { said = written ∙ both; fits = line })
 
-pub returns-in-NoDesync : goal.returns-in-NoDesync
+pub returns-in-Err : goal.returns-in-Err
 unfolding report_line
-returns-in-NoDesync c = rw c.in-NoDesync.is c.numbered-in-NoDesync.ensures
-
-pub returns-in-Desynced : goal.returns-in-Desynced
-unfolding report_line
-returns-in-Desynced c =
-    rw c.in-Desynced.is (record {
-      said = rw (put-join, ← c.json-end.ensures.writes) c.byte.ensures;
-      fits = rw join-length (omega (arith, c.json-end.ensures.within_report_most));
-    })
+returns-in-Err c = rw (c.in-Err.is, ← c.number.ensures) c.numbered.ensures

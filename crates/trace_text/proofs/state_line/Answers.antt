@@ -1,6 +1,5 @@
 -- `trace_text::state_line` meets its contract. Assumes nothing.
-use Prim.Native.Nat.{◌^◌, ◌<◌}
-use native.Mathlib.Omega.{arith}
+use Rattle.std.proofs.Common.{◌<◌, ◌^◌, arith}
 use Rattle.text.proofs.Writing.{put-join, join-length}
 use Rattle.lines.proofs.Laws.{flag_one}
 use Rattle.trace_text.specs.Trace.{state_line}
@@ -19,22 +18,22 @@ returns c =
     let n = sized (goal.at.returns c).Start in record {
       writes = rw (
         put-join,
-        ← c.piece-end.ensures,
-        ← c.counters-end.ensures.writes,
-        ← c.spaced-end.ensures,
-        ← c.spaced-end-2.ensures,
-        ← c.byte-end.ensures,
-        ← c.flag-end.ensures,
-        ← c.byte-end-2.ensures,
-        ← c.flag-end-2.ensures,
-        ← c.spaced-end-3.ensures,
-        ← c.byte-end-3.ensures,
-        ← c.standing-end.ensures.writes,
-      ) c.byte.ensures;
+        ← c.piece.ensures,
+        ← c.counters.ensures.writes,
+        ← c.spaced.ensures,
+        ← c.spaced-2.ensures,
+        ← c.byte.ensures,
+        ← c.flag.ensures,
+        ← c.byte-2.ensures,
+        ← c.flag-2.ensures,
+        ← c.spaced-3.ensures,
+        ← c.byte-3.ensures,
+        ← c.standing.ensures.writes,
+      ) c.byte-4.ensures;
       within = rw (join-length, flag_one a.playing, flag_one a.wants) (omega (
         arith,
-        c.counters-end.ensures.within,
-        c.standing-end.ensures.within,
+        c.counters.ensures.within,
+        c.standing.ensures.within,
         spaced_short a.pending n.0,
         spaced_short a.next n.1,
         spaced_short a.digest n.2,

@@ -1,5 +1,0 @@
--- `lines::worded` meets its contract. Assumes nothing.
-use Rattle.lines.proofs.worded.Goals as goal
-
-pub returns : goal.returns
-returns c = rw (← c.piece-end.ensures) c.decimal.ensures
