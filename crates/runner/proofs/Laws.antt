@@ -1,22 +1,26 @@
 -- Laws of reading a script: in how many pieces its bytes come does not matter, and a record that is not whole waits.
--- And what a record's promise comes to. Assumes nothing.
+-- What a record's promise comes to, and what the search proves the functions by. Assumes nothing.
 use Prim.Native.Nat.{ℕ, suc, ◌<◌, ◌≤◌}
 use mathlib.Core.Path.{◌≡◌, refl, sym, ◌∙◌}
-use mathlib.Core.Bool.{true}
 use mathlib.Core.List.{List, [], ◌∷◌, ◌++◌, append_assoc, append-nil}
 use native.Mathlib.Omega.{arith}
-use borrow.Author.Tests.{eq-eqb}
-use lib.Dec.{eqb}
 use lib.ListN.{length, take, length-append}
-use Rattle.logic.proofs.Cases.{if_true}
-use Rattle.text.specs.Text.{text_limit, page, put}
-use Rattle.text.proofs.Writing.{put-append, put_one}
+use Rattle.std.specs.Prelude.{None}
+use Rattle.text.specs.Text.{text_limit, put}
+use Rattle.text.proofs.Writing.{put_room}
 use Rattle.lines.specs.Lines.{Says}
+use Rattle.session.specs.Host.{opened}
 use Rattle.session.specs.declared.Session.{Session}
 use Rattle.script.specs.Records.{record_size}
 use Rattle.runner.specs.declared.Form.{Form}
-use Rattle.runner.specs.Runner.{Prints}
-use Rattle.runner.specs.Script.{Reading, hold, take_in, reading}
+use Rattle.runner.specs.Runner.{no_params, run_open, open_line_of, next_of, line_of, run_asked, asked_line, traced_line}
+use Rattle.runner.specs.Runner.{shown_line, Prints}
+use Rattle.runner.specs.Script.{Reading, hold_by, hold, take_in, reading}
+
+-- what a call comes to and prints, as one name: under it the search proves most of the crate
+unfoldable pub runs : Unit {0}
+unfolding opened no_params run_open open_line_of next_of line_of run_asked asked_line traced_line shown_line
+runs = tt
 
 pub reading-append : (form : Form) (r : Reading) (xs ys : List ℕ)
     → reading form r (xs ++ ys) ≡ reading form (reading form r xs) ys
@@ -26,27 +30,25 @@ reading-append form r (x ∷ xs) ys = reading-append form (take_in form r x) xs 
 
 -- bytes that complete no record only add to the one that has begun
 pub waits : (form : Form) (s : Session) (said p xs : List ℕ)
-    → ((k : ℕ) → k < length xs → record_size (p ++ take (suc k) xs) ≡ 0)
+    → ((k : ℕ) → k < length xs → record_size (p ++ take (suc k) xs) ≡ None)
     → reading form (record { session = s; begun = p; said = said }) xs
     ≡ record { session = s; begun = p ++ xs; said = said }
-unfolding reading take_in hold
+unfolding reading take_in hold hold_by
 waits form s said p [] h = rw append-nil
 waits form s said p (x ∷ xs) h =
-    let none : eqb (record_size (p ++ (x ∷ []))) 0 ≡ true = eq-eqb _ 0 (h 0 (omega arith)) in
+    let none : record_size (p ++ (x ∷ [])) ≡ None = h 0 (omega arith) in
     rw (
-      if_true _ _ none,
+      none,
       waits form s said (p ++ (x ∷ [])) xs (λ k l. rw append_assoc (h (suc k) (omega arith))),
       append_assoc,
     )
 
 -- a line, and what its form shows behind it
-pub shown_behind : {line before first second : List ℕ} {n m : ℕ} (shown : List ℕ) → Says line before first n
-    → page second m ≡ put (page first n) shown → length shown ≤ 400
-    → (page second m ≡ put (page before 0) (line ++ shown)) × (length (line ++ shown) ≤ text_limit)
-shown_behind shown says behind short =
-    (rw (put-append, ← says.said) behind, rw length-append (omega (arith, says.fits)))
+pub shown_behind : {line first second : List ℕ} (shown : List ℕ) → Says line first → second ≡ put first shown
+    → length shown ≤ 400 → (second ≡ line ++ shown) × (length (line ++ shown) ≤ text_limit)
+shown_behind {line} shown says behind short =
+    (behind ∙ rw says.said (put_room line shown (omega (arith, says.fits))), rw length-append (omega (arith, says.fits)))
 
--- the promise of a record fixes the session, the length and every lent byte: two answers that meet it are equal
-pub prints_one : {s a b : Session} {lines before x y : List ℕ} {m n : ℕ} → Prints s lines a before x m
-    → Prints s lines b before y n → (a ≡ b) × (m ≡ n) × (x ≡ y)
-prints_one p q = let text = put_one p.wrote q.wrote in (p.next ∙ sym q.next, text.0, text.1)
+-- the promise of a record fixes the session and the text: two answers that meet it are equal
+pub prints_one : {s a b : Session} {lines x y : List ℕ} → Prints s lines a x → Prints s lines b y → (a ≡ b) × (x ≡ y)
+prints_one p q = (p.next ∙ sym q.next, p.wrote ∙ sym q.wrote)

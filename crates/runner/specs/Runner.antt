@@ -1,7 +1,7 @@
 -- Document 01, "The script runner `circle`": what a record does to the session that stands, and the line it prints.
 -- Assumes nothing.
 use Rattle.std.specs.Prelude.{ℕ, ◌≤◌, ◌≡◌, Bool, true, false, List, [], ◌++◌, eqb, length}
-use Rattle.text.specs.Text.{text_limit, page, put}
+use Rattle.text.specs.Text.{text_limit}
 use Rattle.logic.specs.Test.{when◌then◌else◌}
 use Rattle.params.specs.Params.{validity, bad_state}
 use Rattle.params.specs.declared.SessionParams.{SessionParams}
@@ -10,8 +10,6 @@ use Rattle.session.specs.Host.{submit, leave}
 use Rattle.session.specs.Step.{advance, commit}
 use Rattle.session.specs.declared.Head.{Head}
 use Rattle.session.specs.declared.Session.{Session}
-use Rattle.session.specs.declared.WorldDigest.{WorldDigest}
-use Rattle.session.specs.declared.WorldDigest.TheVariants.{Absent, Present}
 use Rattle.shown.specs.Wants.{wants_local}
 use Rattle.shown.specs.Ahead.{ready_ticks}
 use Rattle.deliver.specs.Deliver.{deliver}
@@ -28,19 +26,15 @@ use Rattle.trace_text.specs.Trace.{send_lines, state_line}
 use Rattle.runner.specs.declared.Form.{Form}
 use Rattle.runner.specs.declared.Form.TheVariants.{Plain, Trace, Ready}
 
--- the session that stands is this one, and the line is at the front of the buffer
-pub record Runs (session : Session) (line : List ℕ) (after : Session) (before buffer : List ℕ) (n : ℕ) : Type 0 where
+-- the session that stands is this one, and the text is the line
+pub record Runs (session : Session) (line : List ℕ) (after : Session) (text : List ℕ) : Type 0 where
   pub next : after ≡ session
-  pub says : Says line before buffer n
+  pub says : Says line text
 
 -- before a good open stands what no open takes
 unfoldable pub no_params : SessionParams
 no_params =
     record { count = 0; local = 0; width = 0; delay = 0; period = 0; seed = 0; content = 0; rules = 0; session = 0 }
-
--- "flag 0 means none given, any other given"
-unfoldable pub world_of : (flag digest : ℕ) → WorldDigest
-world_of flag digest = when eqb flag 0 then Absent else Present digest
 
 -- a later good open replaces the session, a refused one leaves it
 unfoldable pub run_open : Session → SessionParams → Session
@@ -54,7 +48,7 @@ unfoldable pub next_of : Session → Call → List ℕ → Session
 next_of s Submit bytes = (submit s bytes).session
 next_of s (Deliver source message) bytes = (deliver s source message bytes).session
 next_of s Advance bytes = (advance s).session
-next_of s (Commit tick flag digest) bytes = (commit s tick (world_of flag digest)).session
+next_of s (Commit tick digest) bytes = (commit s tick digest).session
 next_of s Leave bytes = (leave s).session
 next_of s Pump bytes = (pump s).session
 next_of s Report bytes = s
@@ -63,11 +57,11 @@ next_of s Report bytes = s
 unfoldable pub line_of : Session → Call → List ℕ → Bool → List ℕ
 line_of s Submit bytes traced = submit_line (submit s bytes).answer
 line_of s (Deliver source message) bytes traced = deliver_line (deliver s source message bytes).answer
-line_of s Advance bytes traced = advance_line (advance s).answer (advance s).frames.rows
-line_of s (Commit tick flag digest) bytes traced = commit_line (commit s tick (world_of flag digest)).answer
+line_of s Advance bytes traced = advance_line (advance s).answer (advance s).frames
+line_of s (Commit tick digest) bytes traced = commit_line (commit s tick digest).answer
 line_of s Leave bytes traced = leave_line (leave s).answer
 line_of s Pump bytes traced = send_lines (pump s).answer (pump s).run traced
-line_of s Report bytes traced = report_line (desync_report s).answer (desync_report s).report
+line_of s Report bytes traced = report_line (desync_report s)
 
 -- "A script kind from 1 to 12 with its right length is run; another prints `bad`. Before a good open, other well-formed
 -- records print `none`."
@@ -109,11 +103,10 @@ run_record s r = run_asked s (asked r) (rest_of r)
 unfoldable pub record_lines : Session → List ℕ → Form → List ℕ
 record_lines s r form = asked_line s (asked r) (rest_of r) (is_trace form) ++ shown_line (run_record s r) form
 
--- the session that stands is this one, and the lines, whole, are at the front of the buffer, the bytes past them as
--- they were
-pub record Prints (session : Session) (lines : List ℕ) (after : Session) (before buffer : List ℕ) (n : ℕ) : Type 0 where
+-- the session that stands is this one, and the text is the lines, whole
+pub record Prints (session : Session) (lines : List ℕ) (after : Session) (text : List ℕ) : Type 0 where
   pub next : after ≡ session
-  pub wrote : page buffer n ≡ put (page before 0) lines
+  pub wrote : text ≡ lines
   pub fits : length lines ≤ text_limit
 
 -- "A record cut by the end, of any kind, prints `cut`": one of which some bytes are there, and not all

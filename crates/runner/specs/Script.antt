@@ -1,7 +1,6 @@
 -- Document 01, "The script runner `circle`": the lines printed for a script, as a definition over its bytes. A record
 -- is run as soon as its last byte is there, so it does not matter in how many pieces the bytes come. Assumes nothing.
-use Rattle.std.specs.Prelude.{ℕ, List, [], ◌∷◌, ◌++◌, eqb, length}
-use Rattle.logic.specs.Test.{when◌then◌else◌}
+use Rattle.std.specs.Prelude.{ℕ, List, [], ◌∷◌, ◌++◌, Option, None, Some, length}
 use Rattle.session.specs.Session.{fresh}
 use Rattle.session.specs.declared.Session.{Session}
 use Rattle.script.specs.Records.{record_size}
@@ -15,12 +14,15 @@ pub record Reading : Type 0 where
   pub begun : List ℕ
   pub said : List ℕ
 
--- with these bytes in hand: a whole record is run, and one that is not whole has begun
+-- with these bytes in hand, by the size of the record that they are: a whole record is run, and one that is not whole
+-- has begun
+unfoldable pub hold_by : Form → Session → (bytes said : List ℕ) → Option ℕ → Reading
+hold_by form s bytes said None = record { session = s; begun = bytes; said = said }
+hold_by form s bytes said (Some size) =
+    record { session = run_record s bytes; begun = []; said = said ++ record_lines s bytes form }
+
 unfoldable pub hold : Form → Session → (bytes said : List ℕ) → Reading
-hold form s bytes said =
-    when eqb (record_size bytes) 0
-    then record { session = s; begun = bytes; said = said }
-    else record { session = run_record s bytes; begun = []; said = said ++ record_lines s bytes form }
+hold form s bytes said = hold_by form s bytes said (record_size bytes)
 
 -- one byte more
 unfoldable pub take_in : Form → Reading → ℕ → Reading

@@ -1,10 +1,5 @@
--- `runner::end_lines` meets its contract. Assumes nothing.
-use mathlib.Core.Path.{sym}
-use mathlib.Core.List.{[]}
-use native.Mathlib.Omega.{arith}
-use borrow.Author.Tests.{eq-eqb, ne_eqb}
+use Rattle.std.proofs.Common.{eq-eqb, ne_eqb, arith}
 use Rattle.logic.specs.Test.{when◌then◌else◌}
-use Rattle.text.proofs.Writing.{put_front}
 use Rattle.runner.specs.Runner.{end_lines}
 use Rattle.runner.proofs.Laws.{shown_behind}
 use Rattle.runner.proofs.end_lines.Goals as goal
@@ -12,11 +7,11 @@ use Rattle.runner.proofs.end_lines.Goals as goal
 pub returns-then-begun-eq0 : goal.returns-then-begun-eq0
 unfolding end_lines when◌then◌else◌
 returns-then-begun-eq0 c =
-    let whole = eq-eqb _ _ c.if-begun-eq0.true in
-    record { writes = λ ring p. rw whole (sym (put_front _ [] (omega arith))); within = λ ring p. rw whole (omega arith) }
+    rw (eq-eqb _ _ c.if-begun-eq0.true) (record { writes = c.clear.ensures; within = omega arith })
 
 pub returns : goal.returns
 unfolding end_lines when◌then◌else◌
 returns c =
-    let begun = ne_eqb _ _ c.if-begun-eq0.false in
-    record { writes = λ ring p. rw begun (shown_behind _ c.cut_line-size.ensures (c.show.ensures.writes ring p) (c.show.ensures.within ring p)).0; within = λ ring p. rw begun (shown_behind _ c.cut_line-size.ensures (c.show.ensures.writes ring p) (c.show.ensures.within ring p)).1 }
+    let shown = c.show.ensures in
+    let all = shown_behind _ c.cut_line.ensures shown.writes shown.within in
+    rw (ne_eqb _ _ c.if-begun-eq0.false) (record { writes = all.0; within = all.1 })
