@@ -5,23 +5,21 @@ use mathlib.Core.Path.{◌≡◌, refl, sym, ap, ◌∙◌}
 use mathlib.Core.Logic.{◌≢◌}
 use mathlib.Core.List.{List, [], ◌∷◌, ◌++◌, append_assoc, append-nil}
 use native.Mathlib.Omega.{arith}
-use borrow.Author.Tests.{eq-eqb, ne_eqb}
-use lib.Dec.{eqb}
 use lib.ListN.{length, take, drop, get_or, length-append, length-take, length-drop}
 use lib.Seq.{take_all, take-suc, take-take, take-add, take-append_seam, length-take-le}
+use Rattle.std.specs.Prelude.{Option, None, Some}
 use Rattle.logic.specs.Test.{when◌then◌else◌}
-use Rattle.logic.proofs.Cases.{if_true, if_false, decide}
-use Rattle.text.specs.Text.{text_limit, Page, page, written, put_within, join}
-use Rattle.text.proofs.Writing.{within_room, put_said}
+use Rattle.text.specs.Text.{text_limit, put_within, join}
+use Rattle.text.proofs.Writing.{within_room}
 use Rattle.session.specs.Session.{fresh}
 use Rattle.session.specs.declared.Session.{Session}
 use Rattle.script.specs.Records.{longest, record_size, record_lacks}
-use Rattle.script.proofs.Laws.{whole_before, lacks_some, lacks_part}
+use Rattle.script.proofs.Laws.{whole_before, size_is, lacks_some, lacks_part}
 use Rattle.runner.specs.declared.Form.{Form}
 use Rattle.runner.specs.Runner.{no_params, run_record, record_lines, Prints}
-use Rattle.runner.specs.Script.{Reading, hold, take_in, reading, from, closing, script_lines}
+use Rattle.runner.specs.Script.{Reading, hold_by, hold, take_in, reading, from, closing, script_lines}
 use Rattle.runner.proofs.Laws.{waits, reading-append}
-use Rattle.stream.specs.Stream.{reading_of, Begun, Gathers, Feeds, Reads, handed_from, handed}
+use Rattle.stream.specs.Stream.{reading_of, Feeds, Reads, handed_from, handed}
 
 -- ---- what was said before
 
@@ -29,25 +27,21 @@ use Rattle.stream.specs.Stream.{reading_of, Begun, Gathers, Feeds, Reads, handed
 abbrev behind : List ℕ → Reading → Reading
 behind lines r = reading_of r.session r.begun (lines ++ r.said)
 
-hold_behind : (form : Form) (lines : List ℕ) (s : Session) (bytes said : List ℕ)
-    → hold form s bytes (lines ++ said) ≡ behind lines (hold form s bytes said)
-unfolding hold
-hold_behind form lines s bytes said =
-    decide (eqb (record_size bytes) 0)
-    (λ part. if_true _ _ part ∙ sym (ap (behind lines) (if_true _ _ part)))
-    (λ whole.
-    if_false _ _ whole
-    ∙ ap (reading_of (run_record s bytes) []) (append_assoc lines said (record_lines s bytes form))
-    ∙ sym (ap (behind lines) (if_false _ _ whole)))
+hold_behind : (form : Form) (lines : List ℕ) (s : Session) (bytes said : List ℕ) (size : Option ℕ)
+    → hold_by form s bytes (lines ++ said) size ≡ behind lines (hold_by form s bytes said size)
+unfolding hold_by
+hold_behind form lines s bytes said None = refl
+hold_behind form lines s bytes said (Some size) =
+    ap (reading_of (run_record s bytes) []) (append_assoc lines said (record_lines s bytes form))
 
 -- and so it reads on
 reading_behind : (form : Form) (lines : List ℕ) (r : Reading) (bytes : List ℕ)
     → reading form (behind lines r) bytes ≡ behind lines (reading form r bytes)
-unfolding reading take_in
+unfolding reading take_in hold
 reading_behind form lines r [] = refl
 reading_behind form lines r (b ∷ bytes) =
     ap (λ (x : Reading). reading form x bytes)
-    (hold_behind form lines r.session (r.begun ++ (b ∷ [])) r.said)
+    (hold_behind form lines r.session (r.begun ++ (b ∷ [])) r.said (record_size (r.begun ++ (b ∷ []))))
     ∙ reading_behind form lines (take_in form r b) bytes
 
 module _ (form : Form) (s : Session) (begun said : List ℕ) (bytes : List ℕ) where
@@ -59,34 +53,31 @@ module _ (form : Form) (s : Session) (begun said : List ℕ) (bytes : List ℕ) 
 
 -- ---- a record's bytes
 
--- bytes behind the first `at` of a buffer that has room for them
-pub put_behind : (before more : List ℕ) (at : ℕ) {after : List ℕ} {n : ℕ} → at + length more ≤ length before
-    → page after n ≡ put_within (length before) (page before at) more
-    → (n ≡ at + length more) × (take n after ≡ take at before ++ more)
-put_behind before more at {after} {n} room e =
-    let front : length (take at before) ≡ at = length-take-le at before (omega arith) in
-    let all : page after n ≡ written (take at before ++ more) before =
-    e ∙ within_room (length before) (page before at) more (rw front room) in (
-      ap (λ (p : Page). p.size) all ∙ rw (length-append, front),
-      ap (λ (p : Page). take p.size p.bytes) all
-          ∙ take-append_seam (take at before ++ more) (drop (length (take at before ++ more)) before),
-    )
+-- those that had begun and those used of a piece, of which none before the last makes it whole
+pub record Gathers (begun piece : List ℕ) (used : ℕ) (bytes : List ℕ) : Type 0 where
+  pub within : used ≤ length piece
+  pub onward : 0 < length piece → 0 < used
+  pub all : bytes ≡ begun ++ take used piece
+  pub part : (k : ℕ) → k < used → record_size (begun ++ take k piece) ≡ None
 
 -- a whole record at the front of a piece
-module _ (piece : List ℕ) (n : ℕ) (e : n ≡ record_size piece) (some : 0 < n) where
+module _ (piece : List ℕ) (n : ℕ) (e : record_size piece ≡ Some n) where
+  some : 0 < n
+  some = omega (arith, (size_is piece n e).0)
+
   pub gathers_here : Gathers [] piece n (take n piece)
   gathers_here = record {
-    within = rw e (whole_before piece 0 (rw (← e) some)).2;
+    within = (size_is piece n e).1;
     onward = λ l. some;
     all = refl;
-    part = λ k l. (whole_before piece k (rw (← e) l)).0;
+    part = λ k l. (whole_before piece n k e l).0;
   }
 
-  pub whole_here : record_size (take n piece) ≢ 0
-  whole_here z = absurd (omega (arith, rw (← e) at (whole_before piece 0 (rw (← e) some)).1, z, some))
+  pub whole_here : record_size (take n piece) ≡ Some n
+  whole_here = (whole_before piece n 0 e some).1
 
 -- as many bytes as the record waits for
-pub gathers_more : (begun piece bytes : List ℕ) (used : ℕ) → record_size begun ≡ 0
+pub gathers_more : (begun piece bytes : List ℕ) (used : ℕ) → record_size begun ≡ None
     → used ≡ min (record_lacks begun) (length piece) → bytes ≡ begun ++ take used piece
     → Gathers begun piece used bytes
 gathers_more begun piece bytes used part e all = record {
@@ -97,13 +88,13 @@ gathers_more begun piece bytes used part e all = record {
 }
 
 module _ (form : Form) (s : Session) (said begun piece bytes : List ℕ) where
-  pub reading_gathered : (used : ℕ) → record_size begun ≡ 0 → Gathers begun piece used bytes
+  pub reading_gathered : (used : ℕ) → record_size begun ≡ None → Gathers begun piece used bytes
       → reading form (reading_of s begun said) (take used piece) ≡ hold form s bytes said
-  unfolding reading take_in hold
-  reading_gathered zero e g = rw (g.all, append-nil) (sym (if_true _ _ (eq-eqb _ 0 e)))
+  unfolding reading take_in hold hold_by
+  reading_gathered zero e g = rw (g.all, append-nil, e)
   reading_gathered (suc k) e g =
       let last = take-suc piece k 0 (omega (arith, g.within)) in
-      let some : (j : ℕ) → j < length (take k piece) → record_size (begun ++ take (suc j) (take k piece)) ≡ 0 =
+      let some : (j : ℕ) → j < length (take k piece) → record_size (begun ++ take (suc j) (take k piece)) ≡ None =
       λ j l.
       let few : suc j ≤ k = omega (arith, rw length-take at l) in
       rw (take-take (suc j) k piece few) (g.part (suc j) (omega arith)) in
@@ -115,34 +106,42 @@ module _ (form : Form) (s : Session) (said begun piece bytes : List ℕ) where
         append_assoc,
       )
 
-module _ (form : Form) (s : Session) (begun piece bytes : List ℕ) (used : ℕ) (e : record_size begun ≡ 0)
+module _ (form : Form) (s : Session) (begun piece bytes : List ℕ) (used : ℕ) (e : record_size begun ≡ None)
     (g : Gathers begun piece used bytes) where
-  pub feeds_part : record_size bytes ≡ 0 → {rest : List ℕ} → bytes ≡ rest
-      → Feeds form (reading_of s begun []) piece used (reading_of s rest [])
-  unfolding hold
-  feeds_part part same = record {
+  pub feeds_part : record_size bytes ≡ None → Feeds form (reading_of s begun []) piece used (reading_of s bytes [])
+  unfolding hold hold_by
+  feeds_part part = record {
     within = g.within;
     onward = g.onward;
-    reads = reading_gathered form s [] begun piece bytes used e g ∙ if_true _ _ (eq-eqb _ 0 part) ∙ rw same;
+    reads = reading_gathered form s [] begun piece bytes used e g ∙ rw part;
   }
 
-  pub feeds_whole : record_size bytes ≢ 0 → {after : Session} {before line : List ℕ} {n : ℕ}
-      → Prints (run_record s bytes) (record_lines s bytes form) after before line n
-      → Feeds form (reading_of s begun []) piece used (reading_of after [] (take n line))
-  unfolding hold
-  feeds_whole whole {after} {before} {line} {n} p =
-      let said = put_said before (record_lines s bytes form) p.fits p.wrote in
-      record {
-        within = g.within;
-        onward = g.onward;
-        reads = reading_gathered form s [] begun piece bytes used e g ∙ if_false _ _ (ne_eqb _ 0 whole)
-            ∙ rw (← p.next, ← said.1);
-      }
+  pub feeds_whole : (size : ℕ) → record_size bytes ≡ Some size → {after : Session} {line : List ℕ}
+      → Prints (run_record s bytes) (record_lines s bytes form) after line
+      → Feeds form (reading_of s begun []) piece used (reading_of after [] line)
+  unfolding hold hold_by
+  feeds_whole size whole p = record {
+    within = g.within;
+    onward = g.onward;
+    reads = reading_gathered form s [] begun piece bytes used e g ∙ rw (whole, p.next, p.wrote);
+  }
 
 -- nothing has begun
-pub none_begun : (buffer : List ℕ) → length buffer ≡ longest → Begun buffer 0
+pub none_begun : record_size [] ≡ None
 unfolding record_size when◌then◌else◌
-none_begun buffer e = record { room = e; short = omega arith; part = refl }
+none_begun = refl
+
+pub empty : (xs : List ℕ) → length xs ≡ 0 → xs ≡ []
+empty [] e = refl
+empty (x ∷ xs) e = absurd (omega (arith, e))
+
+-- a buffer takes as many bytes of a record as it waits for
+pub gathers_put : (begun piece after : List ℕ) (lacks used : ℕ) → record_size begun ≡ None
+    → lacks ≡ record_lacks begun → length begun + lacks ≤ longest → used ≡ min lacks (length piece)
+    → after ≡ put_within longest begun (take used piece) → Gathers begun piece used after
+gathers_put begun piece after lacks used part e room few put =
+    gathers_more begun piece after used part (rw (← e) few)
+    (put ∙ within_room longest begun (take used piece) (rw length-take (omega arith)))
 
 -- ---- one use after the other
 
@@ -165,77 +164,63 @@ pub fed_within : {form : Form} {r s : Reading} {more : ℕ} (piece : List ℕ) (
 fed_within piece used l f =
     (omega (arith, l, rw length-drop at f.within), f.onward (rw length-drop (omega arith)))
 
--- a piece that is fed as far as `used`: what it came to so far is at the front of `out`
-pub record FedTo (form : Form) (r : Reading) (piece : List ℕ) (s : Session) (begun : List ℕ) (have used : ℕ)
-    (out : List ℕ) (size : ℕ) : Type 0 where
+-- a piece that is fed as far as `used`: what it came to so far is in `out`
+pub record FedTo (form : Form) (r : Reading) (piece : List ℕ) (s : Session) (begun : List ℕ) (used : ℕ)
+    (out : List ℕ) : Type 0 where
   pub within : used ≤ length piece
-  pub room : size ≤ length out
-  pub rest : Begun begun have
-  pub unsaid : used ≡ 0 → size ≡ 0
-  pub reads : reading form r (take used piece) ≡ reading_of s (take have begun) (take size out)
+  pub unsaid : used ≡ 0 → out ≡ []
+  pub reads : reading form r (take used piece) ≡ reading_of s begun out
 
 module _ (form : Form) (piece : List ℕ) where
-  pub fed_none : (s : Session) (begun out : List ℕ) (have : ℕ) → Begun begun have
-      → FedTo form (reading_of s (take have begun) []) piece s begun have 0 out 0
+  pub fed_none : (s : Session) (begun : List ℕ) → FedTo form (reading_of s begun []) piece s begun 0 []
   unfolding reading
-  fed_none s begun out have b =
-      record { within = omega arith; room = omega arith; rest = b; unsaid = λ e. refl; reads = refl }
+  fed_none s begun = record { within = omega arith; unsaid = λ e. refl; reads = refl }
 
-  pub fed_more : (r : Reading) (s t : Session) (begun after line out next : List ℕ)
-      (have used size more n left end : ℕ) → FedTo form r piece s begun have used out size
-      → Feeds form (reading_of s (take have begun) []) (drop used piece) more
-      (reading_of t (take left after) (take n line))
-      → Begun after left → n ≤ text_limit → used < length piece → text_limit ≤ length out - size
-      → length next ≡ length out → page next end ≡ put_within (length out) (page out size) (take n line)
-      → FedTo form r piece t after left (used + more) next end
-  fed_more r s t begun after line out next have used size more n left end f fed b few going free same e =
-      let short : length (take n line) ≤ n = rw length-take (omega arith) in
-      let put = put_behind out (take n line) size (omega (arith, f.room)) e in
+  pub fed_more : (r : Reading) (s t : Session) (begun after line out next : List ℕ) (used more limit : ℕ)
+      → FedTo form r piece s begun used out
+      → Feeds form (reading_of s begun []) (drop used piece) more (reading_of t after line)
+      → length line ≤ text_limit → used < length piece → length out + text_limit ≤ limit
+      → next ≡ put_within limit out line → FedTo form r piece t after (used + more) next
+  fed_more r s t begun after line out next used more limit f fed few going free e =
       let some : 0 < length (drop used piece) = rw length-drop (omega arith) in
       record {
         within = omega (arith, f.within, rw length-drop at fed.within);
-        room = omega (arith, put.0, f.room);
-        rest = b;
         unsaid = λ z. absurd (omega (arith, z, fed.onward some));
-        reads = reads_on form r piece s (take have begun) (take size out) used f.reads more t (take left after)
-            (take n line) fed ∙ ap (reading_of t (take left after)) (sym put.1);
+        reads = reads_on form r piece s begun out used f.reads more t after line fed
+            ∙ ap (reading_of t after) (sym (e ∙ within_room limit out line (omega arith)));
       }
 
 -- a piece that is read as far as `used`, whatever was said
-pub record ReadTo (form : Form) (r : Reading) (piece : List ℕ) (s : Session) (begun : List ℕ) (have used : ℕ)
-    : Type 0 where
+pub record ReadTo (form : Form) (r : Reading) (piece : List ℕ) (s : Session) (begun : List ℕ) (used : ℕ) : Type 0 where
   pub within : used ≤ length piece
-  pub rest : Begun begun have
   pub next : (reading form r (take used piece)).session ≡ s
-  pub front : (reading form r (take used piece)).begun ≡ take have begun
+  pub front : (reading form r (take used piece)).begun ≡ begun
 
 module _ (form : Form) (piece : List ℕ) where
-  pub read_none : (s : Session) (begun : List ℕ) (have : ℕ) → Begun begun have
-      → ReadTo form (reading_of s (take have begun) []) piece s begun have 0
+  pub read_none : (s : Session) (begun : List ℕ) → ReadTo form (reading_of s begun []) piece s begun 0
   unfolding reading
-  read_none s begun have b = record { within = omega arith; rest = b; next = refl; front = refl }
+  read_none s begun = record { within = omega arith; next = refl; front = refl }
 
-  pub read_more : (r : Reading) (s t : Session) (begun after lines : List ℕ) (have used more left : ℕ)
-      → ReadTo form r piece s begun have used
-      → Feeds form (reading_of s (take have begun) []) (drop used piece) more (reading_of t (take left after) lines)
-      → Begun after left → ReadTo form r piece t after left (used + more)
-  read_more r s t begun after lines have used more left f fed b =
+  pub read_more : (r : Reading) (s t : Session) (begun after lines : List ℕ) (used more : ℕ)
+      → ReadTo form r piece s begun used
+      → Feeds form (reading_of s begun []) (drop used piece) more (reading_of t after lines)
+      → ReadTo form r piece t after (used + more)
+  read_more r s t begun after lines used more f fed =
       let here = reading form r (take used piece) in
-      let same : here ≡ reading_of s (take have begun) here.said =
+      let same : here ≡ reading_of s begun here.said =
       ap (λ (x : Session). reading_of x here.begun here.said) f.next
       ∙ ap (λ (x : List ℕ). reading_of s x here.said) f.front in
-      let on = reads_on form r piece s (take have begun) here.said used same more t (take left after) lines fed in
+      let on = reads_on form r piece s begun here.said used same more t after lines fed in
       record {
         within = omega (arith, f.within, rw length-drop at fed.within);
-        rest = b;
         next = ap (λ (x : Reading). x.session) on;
         front = ap (λ (x : Reading). x.begun) on;
       }
 
   -- up to its end
-  pub read_all : (r : Reading) (s : Session) (begun : List ℕ) (have used : ℕ)
-      → ReadTo form r piece s begun have used → length piece ≤ used → Reads form r piece s (take have begun)
-  read_all r s begun have used f l =
+  pub read_all : (r : Reading) (s : Session) (begun : List ℕ) (used : ℕ)
+      → ReadTo form r piece s begun used → length piece ≤ used → Reads form r piece s begun
+  read_all r s begun used f l =
       let all = take_all used piece l in record { next = rw all at f.next; rest = rw all at f.front }
 
 -- ---- all pieces

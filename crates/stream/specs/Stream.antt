@@ -1,35 +1,15 @@
 -- Between reading and writing, which are beyond a contract: the bytes come in pieces, and what each piece comes to is
 -- what the definition of a script's lines (runner/specs/Script.antt) makes of it. Assumes nothing.
 use Rattle.std.specs.Prelude.{ℕ, ◌≤◌, ◌<◌, ◌≡◌, List, [], ◌∷◌, ◌++◌, length, take}
-use Rattle.logic.specs.Test.{when◌then◌else◌}
 use Rattle.session.specs.Session.{fresh}
 use Rattle.session.specs.declared.Session.{Session}
-use Rattle.script.specs.Records.{longest, record_size}
 use Rattle.runner.specs.declared.Form.{Form}
 use Rattle.runner.specs.Runner.{no_params, end_lines}
 use Rattle.runner.specs.Script.{Reading, reading}
-use Rattle.stream.specs.declared.Gathered.{Gathered}
 
 -- a script that is being read, of its parts
 abbrev pub reading_of : Session → (begun said : List ℕ) → Reading
 reading_of s begun said = record { session = s; begun = begun; said = said }
-
--- the record that has begun stands at the front of a buffer which holds the longest one, and is not whole
-pub record Begun (buffer : List ℕ) (have : ℕ) : Type 0 where
-  pub room : length buffer ≡ longest
-  pub short : have < longest
-  pub part : record_size (take have buffer) ≡ 0
-
--- a record's bytes so far: those that had begun and those used of a piece, of which none before the last makes it whole
-pub record Gathers (begun piece : List ℕ) (used : ℕ) (bytes : List ℕ) : Type 0 where
-  pub within : used ≤ length piece
-  pub onward : 0 < length piece → 0 < used
-  pub all : bytes ≡ begun ++ take used piece
-  pub part : (k : ℕ) → k < used → record_size (begun ++ take k piece) ≡ 0
-
--- where they stand: in the piece, or at the front of the buffer
-unfoldable pub bytes_of : (buffer piece : List ℕ) → Gathered → List ℕ
-bytes_of buffer piece g = take g.size (when g.here then piece else buffer)
 
 -- bytes at the front of a piece are used, some where there are some, and the script is read on by just these
 pub record Feeds (form : Form) (before : Reading) (piece : List ℕ) (used : ℕ) (after : Reading) : Type 0 where

@@ -1,22 +1,19 @@
 -- `stream::run_bytes` meets its contract: one piece, before which nothing has begun. Assumes nothing.
-use mathlib.Core.Path.{ap, ◌∙◌}
-use native.Mathlib.Omega.{arith}
-use borrow.Author.Rules.{rules}
-use lib.ListN.{length}
-use lib.Seq.{length-take-le}
+use Rattle.std.proofs.Common.{[], length, ap, sym, ◌∙◌}
 use Rattle.runner.specs.Script.{from}
-use Rattle.stream.proofs.Laws.{none_begun}
+use Rattle.stream.specs.Stream.{reading_of, Reads}
 use Rattle.stream.proofs.run_bytes.Goals as goal
+use Rattle.stream.proofs.run_bytes.Goals.{Then-going}
 
-pub run_piece-requires : goal.run_piece-requires
-run_piece-requires c = (none_begun _ (search rules), search rules)
+ran : (c : Then-going) → Reads c.args.form (reading_of c.args.s.now [] []) c.args.bytes.now
+    c.run_piece-going.new.self.session c.run_piece-going.new.self.begun
+ran c = rw (c.new-reader.ensures.session, c.new-reader.ensures.begun) at (c.run_piece-going.ensures c.if-going.true)
 
-pub returns : goal.returns
+pub returns-then-going-clause-session : goal.returns-then-going-clause-session
 unfolding from
-returns c =
-    let ran = c.run_piece.ensures in
-    record {
-      session = λ going. (ran.reads going).next;
-      have = λ going.
-          ap length (ran.reads going).rest ∙ length-take-le _ _ (omega (arith, ran.begun.room, ran.begun.short));
-    }
+returns-then-going-clause-session c = (ran (goal.at.returns-then-going-clause-session c).Then-going).next
+
+pub returns-then-going-clause-have : goal.returns-then-going-clause-have
+unfolding from
+returns-then-going-clause-have c =
+    ap length (ran (goal.at.returns-then-going-clause-have c).Then-going).rest ∙ sym c.len.ensures.length
