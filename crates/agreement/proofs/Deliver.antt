@@ -10,6 +10,7 @@ use native.Mathlib.Omega.{arith}
 use lib.ListN.{length, drop, length-drop}
 use lib.Seq.{length-take-le}
 use borrow.Author.Tests.{eqb-true, eqb-false, ltb-true, not-false}
+use Rattle.std.specs.Prelude.{Err, None, Ok, Option, Result, Some}
 use Rattle.logic.specs.Saturating.{most, sum}
 use Rattle.logic.proofs.Cases.{by_test}
 use Rattle.logic.proofs.Sums.{sum_fits}
@@ -23,8 +24,7 @@ use Rattle.wire.specs.declared.InputsBody.{InputsBody}
 use Rattle.wire.specs.declared.DigestBody.{DigestBody}
 use Rattle.wire.specs.declared.HelloBody.{HelloBody}
 use Rattle.wire.specs.declared.Message.{Message}
-use Rattle.wire.specs.declared.Form.{Form}
-use Rattle.wire.specs.declared.Form.TheVariants as Form'
+use Rattle.wire.specs.declared.WireError.{WireError}
 use Rattle.wire.specs.Wire.{body_form, form_of}
 use Rattle.wire.proofs.Laws.{good_header, good_inputs}
 use Rattle.window.specs.Absorb.{Absorbed, absorb_one, frame_at, untouched, absorb_first, absorb_inputs}
@@ -33,21 +33,19 @@ use Rattle.window.specs.declared.Note.TheVariants as Note'
 use Rattle.window.proofs.Absorbing.{absorb_cases}
 use Rattle.fingerprint.specs.Cells.{own_for, remote_for}
 use Rattle.fingerprint.specs.declared.Fingerprint.{Fingerprint}
-use Rattle.fingerprint.specs.declared.Cell.TheVariants.{Holds}
 use Rattle.fingerprint.specs.declared.Arrival.{Arrival}
 use Rattle.fingerprint.specs.declared.Arrival.TheVariants.{New, Repeated, Contradicted}
 use Rattle.fingerprint.proofs.Laws.{Stored, fresh, older, with_remote_sized, remote_for_stored, own_for-remote}
 use Rattle.session.specs.declared.Outcome.TheVariants.{PeerLeft}
-use Rattle.session.specs.declared.Standing.{Standing}
-use Rattle.session.specs.declared.Standing.TheVariants.{Open, Over}
+use Rattle.session.specs.declared.Outcome.{Outcome}
 use Rattle.session.specs.declared.Session.{Session}
-use Rattle.session.specs.Session.{with_head}
+use Rattle.session.specs.declared.Answered.{Answered}
+use Rattle.session.specs.Session.{with_head, HeadAnswered}
 use Rattle.deliver.specs.declared.Refusal.{Refusal}
-use Rattle.deliver.specs.declared.Delivered.{Delivered}
-use Rattle.deliver.specs.declared.HeadDelivered.{HeadDelivered}
-use Rattle.deliver.specs.Deliver.{refused, end_with, greeted, accept_hello, marked, note_answer, frames_noted, frames_taken}
-use Rattle.deliver.specs.Deliver.{absorb, print_of, judged, with_print, hear_by, hear, accept, from_header}
-use Rattle.deliver.specs.Deliver.{deliver_form, deliver_by, deliver}
+use Rattle.deliver.specs.declared.Delivery.{Delivery}
+use Rattle.deliver.specs.Deliver.{refused, end_with, greeted, accept_hello, marked, note_answer, frames_noted}
+use Rattle.deliver.specs.Deliver.{frames_taken, absorb, print_of, judged, with_print, hear_by, hear, accept}
+use Rattle.deliver.specs.Deliver.{from_header, deliver_form, deliver_by, deliver}
 use Rattle.deliver.specs.Deliver as Calls
 use Rattle.agreement.specs.World.{seated}
 use Rattle.agreement.specs.Demand.{Valid, Pressed, Said, AgreeAt}
@@ -76,15 +74,15 @@ note_ok : {p : SessionParams} {log : Log} {i : ℕ} (s : Session) (r : Refusal) 
     → SessOk p log i (with_head s (note_answer (refused s.head r) wrote).head)
 unfolding note_answer
 note_ok {p} {log} {i} s r wrote h =
-    by_test (λ (d : HeadDelivered). SessOk p log i (with_head s d.head)) (λ _. refused_ok s r h)
+    by_test (λ (d : HeadAnswered Delivery). SessOk p log i (with_head s d.head)) (λ _. refused_ok s r h)
     (λ _. refused_ok s r h)
 
-noted_ok : {p : SessionParams} {log : Log} {i : ℕ} (s : Session) (n : Note) (wrote : Bool) → SessOk p log i s
+noted_ok : {p : SessionParams} {log : Log} {i : ℕ} (s : Session) (n : Option Note) (wrote : Bool) → SessOk p log i s
     → SessOk p log i (with_head s (Calls.noted s.head n wrote).head)
 unfolding Calls.noted
-noted_ok s Note'.Nothing wrote h = h
-noted_ok s (Note'.OutOfWindow tick pending) wrote h = note_ok s _ wrote h
-noted_ok s (Note'.Contradiction peer tick) wrote h = note_ok s _ wrote h
+noted_ok s None wrote h = h
+noted_ok s (Some (Note'.OutOfWindow tick pending)) wrote h = note_ok s _ wrote h
+noted_ok s (Some (Note'.Contradiction peer tick)) wrote h = note_ok s _ wrote h
 
 -- ---- frames
 
@@ -128,7 +126,7 @@ module _ (p : SessionParams) (valid : Valid p) (log : Log) (i k : ℕ) (li : i <
       → SessOk p log i (absorb s k b run).session
   unfolding absorb frames_taken frames_noted absorb_inputs
   inputs_ok s b run lr fits x h =
-      by_test (λ (d : Delivered). SessOk p log i d.session)
+      by_test (λ (d : Answered Delivery). SessOk p log i d.session)
       (λ e.
       let ew : b.width ≡ p.width =
       eqb-true b.width s.head.params.width e ∙ ap (λ (q : SessionParams). q.width) h.base.par in
@@ -154,11 +152,11 @@ module _ (p : SessionParams) (valid : Valid p) (log : Log) (i k : ℕ) (li : i <
   -- ---- a Digest
 
   judge_ok : (s : Session) (t : ℕ) → Base p log i s
-      → (s.head.outcome ≡ Open → (t' : ℕ) → t' ≢ t → AgreeAt p.count i s.prints t')
+      → (s.head.outcome ≡ None → (t' : ℕ) → t' ≢ t → AgreeAt p.count i s.prints t')
       → SessOk p log i (judged s t).session
   unfolding judged end_with
   judge_ok s t b a =
-      by_test (λ (d : Delivered). SessOk p log i d.session) (λ e. parted_ok ok.count.greatest s t b e)
+      by_test (λ (d : Answered Delivery). SessOk p log i d.session) (λ e. parted_ok ok.count.greatest s t b e)
       (λ e. judged_ok ok.count.greatest s t b a e)
 
   store_ok : (s : Session) (f : Fingerprint) → Said log k f.tick f.state → SessOk p log i s
@@ -189,8 +187,8 @@ module _ (p : SessionParams) (valid : Valid p) (log : Log) (i k : ℕ) (li : i <
       other j t q l (fresh a c) = rw (a.0, a.1, c) x
       other j t q l (older c) = h.base.prints.other j t q l c
 
-      agree : s.head.outcome ≡ Open → (t : ℕ) → t ≢ f.tick → (j : ℕ) (mine theirs : Fingerprint)
-          → j < p.count → j ≢ i → own_for s.prints t ≡ Holds mine
+      agree : s.head.outcome ≡ None → (t : ℕ) → t ≢ f.tick → (j : ℕ) (mine theirs : Fingerprint)
+          → j < p.count → j ≢ i → own_for s.prints t ≡ Some mine
           → Stored ((j ≡ k) × (t ≡ f.tick)) f theirs (remote_for s.prints j t) → mine.state ≡ theirs.state
       agree o t n j mine theirs l m y (fresh a c) = absurd (n a.1)
       agree o t n j mine theirs l m y (older c) = h.agree o t j mine theirs l m y c
@@ -208,10 +206,10 @@ module _ (p : SessionParams) (valid : Valid p) (log : Log) (i k : ℕ) (li : i <
       → SessOk p log i (with_head s (accept_hello s.head k b).head)
   unfolding accept_hello
   hello_ok s b h =
-      by_test (λ (d : HeadDelivered). SessOk p log i (with_head s d.head)) (λ _. start_ok _ (greeted_ok s k h))
+      by_test (λ (d : HeadAnswered Delivery). SessOk p log i (with_head s d.head)) (λ _. start_ok _ (greeted_ok s k h))
       (λ _. refused_ok s _ h)
 
-  accept_ok : (s : Session) (b : Body) (run : List ℕ) → body_form b (length run) ≡ Form'.Good → BodyOk log k b run
+  accept_ok : (s : Session) (b : Body) (run : List ℕ) → body_form b (length run) ≡ Ok tt → BodyOk log k b run
       → SessOk p log i s → SessOk p log i (accept s k b run).session
   unfolding accept body_form hear end_with
   accept_ok s (Body'.Hello b) run g x h = hello_ok s b h
@@ -226,10 +224,10 @@ module _ (p : SessionParams) (valid : Valid p) (log : Log) (i k : ℕ) (li : i <
 module _ (p : SessionParams) (valid : Valid p) (log : Log) (i : ℕ) (li : i < p.count) (s : Session) (source : ℕ)
     (m : Message) (run : List ℕ)
     (x : BodyOk log m.sender m.body run) (h : SessOk p log i s) where
-  abbrev Kept : Delivered → Type 0
+  abbrev Kept : Answered Delivery → Type 0
   Kept d = SessOk p log i d.session
 
-  header_ok : m.sender < seats → body_form m.body (length run) ≡ Form'.Good → Kept (from_header s source m run)
+  header_ok : m.sender < seats → body_form m.body (length run) ≡ Ok tt → Kept (from_header s source m run)
   unfolding from_header
   header_ok low good =
       by_test Kept (λ _. refused_ok s _ h)
@@ -245,15 +243,15 @@ module _ (p : SessionParams) (valid : Valid p) (log : Log) (i : ℕ) (li : i < p
       accept_ok p valid log i m.sender li (subst (λ (y : SessionParams). m.sender < y.count) par l) n s
       m.body run good x h))))
 
-  form_ok : (f : Form) → form_of m run ≡ f → Kept (deliver_form s source m run f)
+  form_ok : (f : Result (Unit {0}) WireError) → form_of m run ≡ f → Kept (deliver_form s source m run f)
   unfolding deliver_form
-  form_ok (Form'.Malformed e) q = refused_ok s _ h
-  form_ok Form'.Good q = let g = good_header m run q in header_ok g.sender g.body
+  form_ok (Err e) q = refused_ok s _ h
+  form_ok (Ok good) q = let g = good_header m run q in header_ok g.sender g.body
 
-  standing_ok : (o : Standing) → Kept (deliver_by s source m run o)
+  standing_ok : (o : Option Outcome) → Kept (deliver_by s source m run o)
   unfolding deliver_by
-  standing_ok (Over o) = h
-  standing_ok Open = form_ok (form_of m run) refl
+  standing_ok (Some o) = h
+  standing_ok None = form_ok (form_of m run) refl
 
   pub deliver_ok : Kept (deliver s source m run)
   unfolding deliver

@@ -6,6 +6,7 @@ use mathlib.Core.Path.{◌≡◌}
 use mathlib.Core.Logic.{◌≢◌}
 use mathlib.Core.List.{List, [], ◌++◌, Memᴰ}
 use lib.ListN.{get_or, length, take}
+use Rattle.std.specs.Prelude.{None, Option, Some}
 use Rattle.hash.specs.Fnv.{start}
 use Rattle.peer.specs.Seats.{seats}
 use Rattle.params.specs.declared.SessionParams.{SessionParams}
@@ -19,14 +20,10 @@ use Rattle.rows.specs.Rows.{padded, step_digest}
 use Rattle.fingerprint.specs.Cells.{own_for, remote_for}
 use Rattle.fingerprint.specs.declared.Fingerprint.{Fingerprint}
 use Rattle.fingerprint.specs.declared.Fingerprints.{Fingerprints}
-use Rattle.fingerprint.specs.declared.Cell.{Cell}
-use Rattle.fingerprint.specs.declared.Cell.TheVariants as Cell'
 use Rattle.fingerprint.proofs.Laws as Prints
 use Rattle.session.specs.declared.Outcome.TheVariants.{Desynced}
 use Rattle.session.specs.declared.Outstanding.{Outstanding}
-use Rattle.session.specs.declared.Outstanding.TheVariants.{Free, Out}
-use Rattle.session.specs.declared.Standing.{Standing}
-use Rattle.session.specs.declared.Standing.TheVariants.{Open, Over}
+use Rattle.session.specs.declared.Outcome.{Outcome}
 use Rattle.session.specs.declared.Session.{Session}
 use Rattle.agreement.specs.World.{seated, Mail, Event, pressed, stepped, committed, Turn, World}
 use Rattle.agreement.specs.Demand.{Pressed, Said, presses, Few, Differ, AgreeAt}
@@ -70,23 +67,24 @@ pub record NextFacts (log : Log) (i next : ℕ) : Type 0 where
   pub below : (tick : ℕ) (b : List ℕ) → Pressed log i tick b → tick < next
   pub many : presses log i ≡ next
 
-abbrev pub FoldFacts : SessionParams → Log → ℕ → Outstanding → ℕ → Type 0
-FoldFacts p log pending Free a = Folded p log pending a
-FoldFacts p log pending (Out tick due) a = (tick ≡ pending) × Folded p log (suc pending) a
+abbrev pub FoldFacts : SessionParams → Log → ℕ → Option Outstanding → ℕ → Type 0
+FoldFacts p log pending None a = Folded p log pending a
+FoldFacts p log pending (Some out) a = (out.tick ≡ pending) × Folded p log (suc pending) a
 
-pub record PrintFacts (p : SessionParams) (log : Log) (i : ℕ) (prints : Fingerprints) (owed : Cell) : Type 0 where
+pub record PrintFacts (p : SessionParams) (log : Log) (i : ℕ) (prints : Fingerprints) (owed : Option Fingerprint)
+    : Type 0 where
   pub size : Prints.Sized prints
-  pub own : (tick : ℕ) (f : Fingerprint) → own_for prints tick ≡ Cell'.Holds f → Said log i tick f.state
-  pub other : (k tick : ℕ) (f : Fingerprint) → k < p.count → remote_for prints k tick ≡ Cell'.Holds f
+  pub own : (tick : ℕ) (f : Fingerprint) → own_for prints tick ≡ Some f → Said log i tick f.state
+  pub other : (k tick : ℕ) (f : Fingerprint) → k < p.count → remote_for prints k tick ≡ Some f
       → Said log k tick f.state
-  pub owes : (f : Fingerprint) → owed ≡ Cell'.Holds f → Said log i f.tick f.state
+  pub owes : (f : Fingerprint) → owed ≡ Some f → Said log i f.tick f.state
 
 -- a session's own commits are all below its pending tick
 abbrev pub SaidFacts : Log → (i pending : ℕ) → Type 0
 SaidFacts log i pending = (tick state : ℕ) → Said log i tick state → tick < pending
 
-abbrev pub OutFacts : SessionParams → Log → ℕ → Standing → Type 0
-OutFacts p log i o = (tick : ℕ) → o ≡ Over (Desynced tick) → Differ p log i tick
+abbrev pub OutFacts : SessionParams → Log → ℕ → Option Outcome → Type 0
+OutFacts p log i o = (tick : ℕ) → o ≡ Some (Desynced tick) → Differ p log i tick
 
 abbrev pub Base : SessionParams → Log → ℕ → Session → Type 0
 Base p log i s =
@@ -101,7 +99,7 @@ Base p log i s =
     }
 
 abbrev pub Agrees : SessionParams → ℕ → Session → Type 0
-Agrees p i s = s.head.outcome ≡ Open → (tick : ℕ) → AgreeAt p.count i s.prints tick
+Agrees p i s = s.head.outcome ≡ None → (tick : ℕ) → AgreeAt p.count i s.prints tick
 
 -- a session at seat i, against the log
 pub record SessOk (p : SessionParams) (log : Log) (i : ℕ) (s : Session) : Type 0 where

@@ -7,16 +7,16 @@ use mathlib.Core.Bool.{true≢false}
 use mathlib.Core.List.Memᴰ
 use mathlib.Core.List.{List, [], ◌∷◌, Memᴰ}
 use borrow.Author.Tests.{ne_eqb}
+use Rattle.std.specs.Prelude.{None, Option, Some}
 use Rattle.logic.proofs.Cases.{if_false}
 use Rattle.params.specs.declared.SessionParams.{SessionParams}
 use Rattle.wire.specs.declared.Body.{Body}
 use Rattle.wire.specs.declared.Body.TheVariants as Body'
 use Rattle.window.specs.declared.Window.{Window}
 use Rattle.fingerprint.specs.declared.Fingerprints.{Fingerprints}
-use Rattle.fingerprint.specs.declared.Cell.{Cell}
+use Rattle.fingerprint.specs.declared.Fingerprint.{Fingerprint}
 use Rattle.session.specs.declared.Outstanding.{Outstanding}
-use Rattle.session.specs.declared.Outstanding.TheVariants.{Free, Out}
-use Rattle.session.specs.declared.Standing.{Standing}
+use Rattle.session.specs.declared.Outcome.{Outcome}
 use Rattle.session.specs.declared.Session.{Session}
 use Rattle.agreement.specs.World.{Event, pressed, stepped, committed}
 use Rattle.agreement.specs.Demand.{Pressed, Said, presses, Differ}
@@ -45,10 +45,10 @@ module _ {log longer : Log} (up : Sub log longer) where
     is = h.is;
   }
 
-  pub fold_up : (p : SessionParams) (pending : ℕ) (o : Outstanding) (a : ℕ) → FoldFacts p log pending o a
+  pub fold_up : (p : SessionParams) (pending : ℕ) (o : Option Outstanding) (a : ℕ) → FoldFacts p log pending o a
       → FoldFacts p longer pending o a
-  fold_up p pending Free a h = folded_up p pending a h
-  fold_up p pending (Out tick due) a h = (h.0, folded_up p (suc pending) a h.1)
+  fold_up p pending None a h = folded_up p pending a h
+  fold_up p pending (Some out) a h = (h.0, folded_up p (suc pending) a h.1)
 
   differ_up : {p : SessionParams} {i tick : ℕ} → Differ p log i tick → Differ p longer i tick
   differ_up d =
@@ -66,8 +66,8 @@ module _ {log longer : Log} (up : Sub log longer) where
   pub ring_up : {p : SessionParams} {w : Window} → RingFacts p log w → RingFacts p longer w
   ring_up h = record { ok = h.ok; each = λ k t v l x. up _ (h.each k t v l x) }
 
-  pub prints_up : {p : SessionParams} {i : ℕ} {prints : Fingerprints} {owed : Cell} → PrintFacts p log i prints owed
-      → PrintFacts p longer i prints owed
+  pub prints_up : {p : SessionParams} {i : ℕ} {prints : Fingerprints} {owed : Option Fingerprint}
+      → PrintFacts p log i prints owed → PrintFacts p longer i prints owed
   prints_up h = record {
     size = h.size;
     own = λ t f x. up _ (h.own t f x);
@@ -75,7 +75,7 @@ module _ {log longer : Log} (up : Sub log longer) where
     owes = λ f x. up _ (h.owes f x);
   }
 
-  pub out_up : {p : SessionParams} {i : ℕ} {o : Standing} → OutFacts p log i o → OutFacts p longer i o
+  pub out_up : {p : SessionParams} {i : ℕ} {o : Option Outcome} → OutFacts p log i o → OutFacts p longer i o
   out_up h = λ t x. differ_up (h t x)
 
   pub body_up : (k : ℕ) (b : Body) (run : List ℕ) → BodyOk log k b run → BodyOk longer k b run

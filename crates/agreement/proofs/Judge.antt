@@ -7,6 +7,7 @@ use mathlib.Core.Bool.{true, false, ◌&&◌, not}
 use native.Mathlib.Omega.{arith}
 use lib.Dec.{eqb, ltb}
 use borrow.Author.Tests.{lt-ltb, ne_eqb, eqb-false, ltb-true, not-true}
+use Rattle.std.specs.Prelude.{None, Option, Some}
 use Rattle.logic.proofs.Cases.{by_test, case_eq, and_both}
 use Rattle.peer.specs.Seats.{seats, has}
 use Rattle.params.specs.Params.{remotes_of}
@@ -16,25 +17,23 @@ use Rattle.fingerprint.specs.Judging.{parted}
 use Rattle.fingerprint.proofs.Laws.{parted_true, parted_false}
 use Rattle.session.specs.declared.Outcome.{Outcome}
 use Rattle.session.specs.declared.Outcome.TheVariants.{Desynced}
-use Rattle.session.specs.declared.Standing.{Standing}
-use Rattle.session.specs.declared.Standing.TheVariants.{Open, Over}
 use Rattle.session.specs.declared.Session.{Session}
 use Rattle.session.specs.Session.{with_head, over, ended}
 use Rattle.session.specs.Step.{judge}
 use Rattle.agreement.specs.Demand.{Differ, AgreeAt}
 use Rattle.agreement.proofs.Facts.{Log, OutFacts, Base, SessOk}
 
-not_open : {o : Outcome} → Over o ≡ Open → ⊥
+not_open : {o : Outcome} → Some o ≡ None → ⊥
 not_open e = let z : ◌≡◌ {A = ℕ} 0 1 = cc in omega arith
 
-over-not_open : (was : Standing) (o : Outcome) → over was o ≡ Open → ⊥
-over-not_open Open o e = not_open e
-over-not_open (Over q) o e = not_open e
+over-not_open : (was : Option Outcome) (o : Outcome) → over was o ≡ None → ⊥
+over-not_open None o e = not_open e
+over-not_open (Some q) o e = not_open e
 
-over_out : (p : SessionParams) (log : Log) (i : ℕ) (was : Standing) (o : Outcome) → OutFacts p log i was
+over_out : (p : SessionParams) (log : Log) (i : ℕ) (was : Option Outcome) (o : Outcome) → OutFacts p log i was
     → ((t : ℕ) → o ≡ Desynced t → Differ p log i t) → OutFacts p log i (over was o)
-over_out p log i Open o h d t e = d t (let q : o ≡ Desynced t = cc in q)
-over_out p log i (Over q) o h d t e = h t e
+over_out p log i None o h d t e = d t (let q : o ≡ Desynced t = cc in q)
+over_out p log i (Some q) o h d t e = h t e
 
 module _ {p : SessionParams} {log : Log} {i : ℕ} where
   pub ended_ok : (s : Session) (o : Outcome) → ((t : ℕ) → o ≡ Desynced t → Differ p log i t) → Base p log i s
@@ -91,7 +90,7 @@ module _ {p : SessionParams} {log : Log} {i : ℕ} where
         sym (parted_false s.prints (remotes_of s.head.params) t e mine x k low (is_remote k l n) theirs y)
 
     -- agreement at every tick but t, and judged at t
-    pub judged_ok : (s.head.outcome ≡ Open → (t' : ℕ) → t' ≢ t → AgreeAt p.count i s.prints t')
+    pub judged_ok : (s.head.outcome ≡ None → (t' : ℕ) → t' ≢ t → AgreeAt p.count i s.prints t')
         → parted s.prints (remotes_of s.head.params) t ≡ false → SessOk p log i s
     judged_ok a e = record { base = b; agree = λ o t'. case_eq t' t (λ q. rw q (together e)) (λ n. a o t' n) }
 
@@ -99,7 +98,7 @@ module _ {p : SessionParams} {log : Log} {i : ℕ} where
         → SessOk p log i (with_head s (ended s.head (Desynced t)))
     parted_ok e = ended_ok s (Desynced t) (λ t' q. let same : t ≡ t' = cc in rw (← same) (apart e)) b
 
-    pub judge_ok : (s.head.outcome ≡ Open → (t' : ℕ) → t' ≢ t → AgreeAt p.count i s.prints t')
+    pub judge_ok : (s.head.outcome ≡ None → (t' : ℕ) → t' ≢ t → AgreeAt p.count i s.prints t')
         → SessOk p log i (judge s t)
     unfolding judge
     judge_ok a = by_test (SessOk p log i) (λ e. parted_ok e) (λ e. judged_ok a e)

@@ -7,6 +7,7 @@ use native.Mathlib.Nat.{mul-le-mul_right, suc-mul}
 use native.Mathlib.Omega.{arith}
 use lib.ListN.{take, drop}
 use lib.Seq.{take-take}
+use Rattle.std.specs.Prelude.{None, Option, Some}
 use Rattle.params.specs.declared.SessionParams.{SessionParams}
 use Rattle.wire.specs.declared.Body.{Body}
 use Rattle.wire.specs.declared.Body.TheVariants as Body'
@@ -15,16 +16,12 @@ use Rattle.wire.specs.declared.Message.{Message}
 use Rattle.window.specs.Window.{frame_of}
 use Rattle.window.specs.Absorb.{frame_at}
 use Rattle.fingerprint.specs.declared.Fingerprint.{Fingerprint}
-use Rattle.fingerprint.specs.declared.Cell.{Cell}
-use Rattle.fingerprint.specs.declared.Cell.TheVariants.{Empty, Holds}
 use Rattle.session.specs.declared.Emit.{Emit}
 use Rattle.session.specs.declared.Emit.TheVariants as Emit'
 use Rattle.session.specs.declared.Session.{Session}
 use Rattle.pump.specs.declared.Outbound.{Outbound}
 use Rattle.pump.specs.declared.Outbound.TheVariants.{Send, Nothing, BadState}
 use Rattle.pump.specs.declared.Pumped.{Pumped}
-use Rattle.pump.specs.declared.Saying.{Saying}
-use Rattle.pump.specs.declared.Saying.TheVariants.{Says}
 use Rattle.pump.specs.Pump.{inputs_of, digest_of, saying, quiet, pass_ends, send, pump}
 use Rattle.pump.proofs.Laws.{Pumps, refused, ended, sends, pump_is, pump_moves, told, message_sent}
 use Rattle.pump.proofs.Newest.{inputs_sent}
@@ -55,25 +52,25 @@ frame_front run w c j l =
 
 -- ---- the digest that is sent is the one that is owed
 
-record Owed (c : Cell) (d : DigestBody) : Type 0 where
+record Owed (c : Option Fingerprint) (d : DigestBody) : Type 0 where
   print : Fingerprint
-  is : c ≡ Holds print
+  is : c ≡ Some print
   tick : print.tick ≡ d.tick
   state : print.state ≡ d.state
 
 says_digest : (s : Session) (emit : Emit) (d : DigestBody)
-    → saying s.head s.window emit ≡ Says (Body'.Digest d) → Owed s.head.owed d
+    → saying s.head s.window emit ≡ Some (Body'.Digest d) → Owed s.head.owed d
 unfolding saying inputs_of digest_of
 says_digest s Emit'.Hello d e = let z : ◌≡◌ {A = ℕ} 0 1 = cc in absurd (omega arith)
 says_digest s Emit'.Inputs d e =
-    by_test (λ (x : Saying). x ≡ Says (Body'.Digest d) → Owed s.head.owed d)
+    by_test (λ (x : Option Body). x ≡ Some (Body'.Digest d) → Owed s.head.owed d)
     (λ _ q. let z : ◌≡◌ {A = ℕ} 0 1 = cc in absurd (omega arith))
     (λ _ q. let z : ◌≡◌ {A = ℕ} 0 1 = cc in absurd (omega arith)) e
 says_digest s Emit'.Digest d e = from s.head.owed e
   where
-    from : (c : Cell) → digest_of c ≡ Says (Body'.Digest d) → Owed c d
-    from Empty e = let z : ◌≡◌ {A = ℕ} 0 1 = cc in absurd (omega arith)
-    from (Holds f) e = record { print = f; is = refl; tick = cc; state = cc }
+    from : (c : Option Fingerprint) → digest_of c ≡ Some (Body'.Digest d) → Owed c d
+    from None e = let z : ◌≡◌ {A = ℕ} 0 1 = cc in absurd (omega arith)
+    from (Some f) e = record { print = f; is = refl; tick = cc; state = cc }
 says_digest s Emit'.Bye d e = let z : ◌≡◌ {A = ℕ} 0 1 = cc in absurd (omega arith)
 says_digest s Emit'.Done d e = let z : ◌≡◌ {A = ℕ} 0 1 = cc in absurd (omega arith)
 
@@ -87,7 +84,7 @@ digest_sent s k m d = from (pump_is s)
     from (ended good) e q = let z : ◌≡◌ {A = ℕ} 0 1 = cc in absurd (omega arith)
     from (sends emit place j body good t h) e q =
         let is : body ≡ Body'.Digest d = cc in
-        says_digest s emit d ((told s emit place j body t).says ∙ ap Says is)
+        says_digest s emit d ((told s emit place j body t).says ∙ ap Some is)
 
 -- ---- a pump keeps the facts
 

@@ -6,17 +6,16 @@ use mathlib.Core.Logic.{◌⊎◌, inl, inr}
 use mathlib.Core.Bool.{true≢false}
 use mathlib.Core.List.Memᴰ
 use mathlib.Core.List.{List, [], ◌∷◌, ◌++◌, Memᴰ}
-use mathlib.Core.Option.{Option, none, some}
 use native.Mathlib.Omega.{arith}
-use lib.ListN.{get_elem?}
 use borrow.Author.Tests.{eqb-true, eqb-false, ltb-true}
+use Rattle.std.specs.Prelude.{Option, None, Some, slice_get}
 use Rattle.logic.proofs.Cases.{by_test}
 use Rattle.params.specs.declared.SessionParams.{SessionParams}
 use Rattle.params.proofs.Laws.{sound}
 use Rattle.window.proofs.Laws.{fresh_sized, fresh_holds}
 use Rattle.fingerprint.proofs.Laws.{new_sized, own_for-new, remote_for-new}
 use Rattle.session.specs.declared.Session.{Session}
-use Rattle.session.specs.Session.{fresh_head}
+use Rattle.session.specs.Session.{fresh_head, fresh}
 use Rattle.session.specs.Host.{opened}
 use Rattle.agreement.specs.World.{seated, Mail, Call, submits, delivers, advances, commits, leaves, pumps, asks}
 use Rattle.agreement.specs.World.{Event, pressed, stepped, committed, World, Turn, deliver_turn, turn, seat_of}
@@ -29,7 +28,7 @@ use Rattle.agreement.proofs.Step.{advance_ok, commit_ok, leave_ok}
 use Rattle.agreement.proofs.Deliver.{deliver_ok}
 use Rattle.agreement.proofs.Pump.{pump_ok}
 
-got : {A : Type 0} (l : List A) (j : ℕ) (a : A) → get_elem? l j ≡ some a → Memᴰ a l
+got : {A : Type 0} (l : List A) (j : ℕ) (a : A) → slice_get l j ≡ Some a → Memᴰ a l
 got [] j a e = absurd (true≢false (cc))
 got (x ∷ xs) zero a e = let q : a ≡ x = cc in Memᴰ.head q
 got (x ∷ xs) (suc j) a e = Memᴰ.tail (got xs j a e)
@@ -44,7 +43,7 @@ presses-le (committed i t d ∷ new) log k = presses-le new log k
 
 module _ (p : SessionParams) (valid : Valid p) where
   fresh_ok : (i : ℕ) → SessOk p [] i (opened (seated p i)).session
-  unfolding opened fresh_head presses
+  unfolding opened fresh_head fresh presses
   fresh_ok i = record {
     base =
         record {
@@ -66,10 +65,10 @@ module _ (p : SessionParams) (valid : Valid p) where
   }
 
   given_ok : (log : Log) (i : ℕ) → i < p.count → (s : Session) (o : Option Mail)
-      → ((m : Mail) → o ≡ some m → MailOk log m) → SessOk p log i s → TurnOk p log i (deliver_turn s o)
+      → ((m : Mail) → o ≡ Some m → MailOk log m) → SessOk p log i s → TurnOk p log i (deliver_turn s o)
   unfolding deliver_turn
-  given_ok log i li s none x h = quiet_ok h
-  given_ok log i li s (some m) x h =
+  given_ok log i li s None x h = quiet_ok h
+  given_ok log i li s (Some m) x h =
       quiet_ok (deliver_ok p valid log i li s m.source m.message m.run (x m refl) h)
 
   turn_ok : (w : World) (c : Call) → WorldOk p w → seat_of c < p.count → TurnGoal p w.log (seat_of c) (turn w c)

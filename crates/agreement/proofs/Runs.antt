@@ -4,11 +4,10 @@ use Prim.Native.Nat.{ℕ}
 use mathlib.Core.Path.{◌≡◌, refl}
 use mathlib.Core.List.{List, [], ◌∷◌, ◌++◌}
 use lib.ListN.{take}
+use Rattle.std.specs.Prelude.{None, Option, Some}
 use Rattle.params.specs.declared.SessionParams.{SessionParams}
 use Rattle.session.specs.declared.Outcome.TheVariants.{Desynced, PeerLeft, LeftLocally}
-use Rattle.session.specs.declared.Standing.{Standing}
-use Rattle.session.specs.declared.Standing.TheVariants.{Open, Over}
-use Rattle.session.specs.declared.WorldDigest.TheVariants.{Present}
+use Rattle.session.specs.declared.Outcome.{Outcome}
 use Rattle.deliver.proofs.Computing.{delivering}
 use Rattle.pump.proofs.Computing.{pumping}
 use Rattle.agreement.specs.World.{Event, pressed, stepped, committed, Call, submits, delivers, advances, commits}
@@ -31,11 +30,11 @@ told (stepped k t rows d ∷ es) = (2 ∷ k ∷ t ∷ take 2 (bytes_of rows)) ++
 told (committed k t d ∷ es) = 3 ∷ k ∷ t ∷ d ∷ told es
 
 -- how a session ended: 0 not at all; 1 desynced, at its tick
-ending : Standing → List ℕ
-ending Open = 0 ∷ []
-ending (Over (Desynced t)) = 1 ∷ t ∷ []
-ending (Over (PeerLeft k t)) = 2 ∷ []
-ending (Over (LeftLocally t)) = 3 ∷ []
+ending : Option Outcome → List ℕ
+ending None = 0 ∷ []
+ending (Some (Desynced t)) = 1 ∷ t ∷ []
+ending (Some (PeerLeft k t)) = 2 ∷ []
+ending (Some (LeftLocally t)) = 3 ∷ []
 
 -- the last call first. Each seat's first Hello is lost and its second arrives; both press; seat 1's Inputs comes twice;
 -- both step
@@ -47,7 +46,7 @@ join =
 
 -- both commit, and seat 0's digest reaches seat 1
 committing : (ours theirs : ℕ) → List Call
-committing ours theirs = delivers 1 0 ∷ pumps 0 ∷ commits 1 0 (Present theirs) ∷ commits 0 0 (Present ours) ∷ join
+committing ours theirs = delivers 1 0 ∷ pumps 0 ∷ commits 1 0 (Some theirs) ∷ commits 0 0 (Some ours) ∷ join
 
 -- what was shown, newest first, and how the two sessions stand
 summary : List Call → List ℕ
@@ -86,6 +85,6 @@ fork = record {
 
 -- the two as one table under a single proof
 runs : summary healthy.calls ∷ summary fork.calls ∷ [] ≡ healthy.shows ∷ fork.shows ∷ []
-unfolding delivering pumping press_shown submit_turn deliver_turn step_shown advance_turn commit_shown commit_turn mailed
-    pump_turn turn seat_of update after play run bytes_of told ending join committing summary healthy fork
+unfolding delivering pumping press_shown submit_turn deliver_turn step_shown advance_turn commit_shown commit_turn
+    mailed pump_turn turn seat_of update after play run bytes_of told ending join committing summary healthy fork
 runs = refl

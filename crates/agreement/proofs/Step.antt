@@ -9,6 +9,7 @@ use mathlib.Core.List.{List, [], ◌∷◌}
 use native.Mathlib.Omega.{arith}
 use lib.ListN.{get_or, take}
 use borrow.Author.Tests.{lt-ltb}
+use Rattle.std.specs.Prelude.{Err, None, Ok, Option, Some}
 use Rattle.logic.specs.Saturating.{most, raised}
 use Rattle.logic.proofs.Cases.{by_test}
 use Rattle.peer.specs.Seats.{seats, has, is_subset}
@@ -21,25 +22,17 @@ use Rattle.rows.specs.Rows.{padded, rows_of, step_digest}
 use Rattle.rows.proofs.Laws.{length_rows, row_frame, row_head, row_none}
 use Rattle.fingerprint.specs.Cells.{own_for, remote_for}
 use Rattle.fingerprint.specs.declared.Fingerprint.{Fingerprint}
-use Rattle.fingerprint.specs.declared.Cell.TheVariants.{Holds}
 use Rattle.fingerprint.proofs.Laws.{Stored, fresh, older, with_own_sized, own_for_stored, remote_for-own}
 use Rattle.session.specs.declared.Outcome.TheVariants.{Desynced, LeftLocally}
 use Rattle.session.specs.declared.Outstanding.{Outstanding}
-use Rattle.session.specs.declared.Outstanding.TheVariants.{Free, Out}
-use Rattle.session.specs.declared.Standing.{Standing}
-use Rattle.session.specs.declared.Standing.TheVariants.{Open, Over}
-use Rattle.session.specs.declared.WorldDigest.{WorldDigest}
-use Rattle.session.specs.declared.WorldDigest.TheVariants.{Absent, Present}
+use Rattle.session.specs.declared.Outcome.{Outcome}
 use Rattle.session.specs.declared.Session.{Session}
 use Rattle.session.specs.declared.Advance.{Advance}
 use Rattle.session.specs.declared.Advance.TheVariants as Advance'
 use Rattle.session.specs.declared.Advanced.{Advanced}
-use Rattle.session.specs.declared.Commit.{Commit}
-use Rattle.session.specs.declared.Commit.TheVariants as Commit'
-use Rattle.session.specs.declared.Committed.{Committed}
-use Rattle.session.specs.declared.HeadLeft.{HeadLeft}
-use Rattle.session.specs.Numbers.{commit_no}
-use Rattle.session.specs.Session.{with_head, every_seat}
+use Rattle.session.specs.declared.Answered.{Answered}
+use Rattle.session.specs.Numbers.{Commit, Leave, commit_no}
+use Rattle.session.specs.Session.{with_head, HeadAnswered, session_with, every_seat}
 use Rattle.session.specs.Host.{leave_by, leave_head, leave}
 use Rattle.session.specs.Step.{idle, step_rows, take_step, stall, advanced, advance, played, keep_digest, commit}
 use Rattle.session.specs.Step as Calls
@@ -106,14 +99,14 @@ module _ (p : SessionParams) (valid : Valid p) (log : Log) (i : ℕ) (li : i < p
         none = λ k l c. row_none w t n m k l c;
       })
 
-  step_ok : (s : Session) → s.head.play.step ≡ Free → every_held s ≡ true → SessOk p log i s
+  step_ok : (s : Session) → s.head.play.step ≡ None → every_held s ≡ true → SessOk p log i s
       → TurnOk p log i (advance_turn i (advanced s (take_step s.head (rows_at s))))
   unfolding advance_turn take_step Calls.stepped step_shown
   step_ok s free e h =
       let rows = rows_at s in
       let all = all_held s e h in
       let f : Folded p log (pending_of s) s.head.play.digest =
-      subst (λ (o : Outstanding). FoldFacts p log (pending_of s) o s.head.play.digest) free h.base.fold in
+      subst (λ (o : Option Outstanding). FoldFacts p log (pending_of s) o s.head.play.digest) free h.base.fold in
       let was = s.head.play.digest in
       let a = step_digest was (pending_of s) s.head.params.count s.head.params.width rows in
       let is : a ≡ step_digest was (pending_of s) p.count p.width rows =
@@ -164,20 +157,16 @@ module _ (p : SessionParams) (valid : Valid p) (log : Log) (i : ℕ) (li : i < p
 
 -- ---- commit
 
-refused_shows : (i t : ℕ) (given : WorldDigest) (a : Commit) → commit_no a ≢ 0 → commit_shown i t given a ≡ []
+refused_shows : (i t : ℕ) (given : Option ℕ) (a : Commit) → commit_no a ≢ 0 → commit_shown i t given a ≡ []
 unfolding commit_shown
-refused_shows i t given Commit'.Done n = absurd (n refl)
-refused_shows i t Absent Commit'.BadState n = refl
-refused_shows i t (Present d) Commit'.BadState n = refl
-refused_shows i t Absent (Commit'.OutOfOrder saw expected) n = refl
-refused_shows i t (Present d) (Commit'.OutOfOrder saw expected) n = refl
-refused_shows i t Absent (Commit'.DigestMismatch saw owed) n = refl
-refused_shows i t (Present d) (Commit'.DigestMismatch saw owed) n = refl
+refused_shows i t given (Ok done) n = absurd (n refl)
+refused_shows i t None (Err refusal) n = refl
+refused_shows i t (Some d) (Err refusal) n = refl
 
 module _ (p : SessionParams) (few : p.count ≤ seats) (log : Log) (i : ℕ) where
   -- a digest that the log has goes in its cell and is judged
   print_ok : (s : Session) (t state : ℕ) → SessOk p log i s → Said log i t state
-      → SessOk p log i (keep_digest s t (Present state))
+      → SessOk p log i (keep_digest s t (Some state))
   unfolding keep_digest
   print_ok s t state h x =
       let b = h.base in
@@ -207,17 +196,19 @@ module _ (p : SessionParams) (few : p.count ≤ seats) (log : Log) (i : ℕ) whe
       own t' q (fresh a c) = rw (a, c) x
       own t' q (older c) = h.base.prints.own t' q c
 
-      agree : s.head.outcome ≡ Open → (t' : ℕ) → t' ≢ t → (k : ℕ) (mine theirs : Fingerprint) → k < p.count → k ≢ i
+      agree : s.head.outcome ≡ None → (t' : ℕ) → t' ≢ t → (k : ℕ) (mine theirs : Fingerprint) → k < p.count → k ≢ i
           → Stored (t' ≡ t) f mine (own_for s.prints t')
-          → remote_for s.prints k t' ≡ Holds theirs → mine.state ≡ theirs.state
+          → remote_for s.prints k t' ≡ Some theirs → mine.state ≡ theirs.state
       agree o t' n k mine theirs l m (fresh a c) z = absurd (n a)
       agree o t' n k mine theirs l m (older c) z = h.agree o t' k mine theirs l m c z
 
   -- an outstanding step is for the pending tick, which has one's own press, so it is not the last number
-  module _ (li : i < p.count) (s : Session) (t : ℕ) (due : Bool) (e : s.head.play.step ≡ Out t due)
-      (h : SessOk p log i s) where
+  module _ (li : i < p.count) (s : Session) (t : ℕ) (out : Outstanding) (e : s.head.play.step ≡ Some out)
+      (at : out.tick ≡ t) (h : SessOk p log i s) where
     out_fold : (t ≡ pending_of s) × Folded p log (suc (pending_of s)) s.head.play.digest
-    out_fold = subst (λ (o : Outstanding). FoldFacts p log (pending_of s) o s.head.play.digest) e h.base.fold
+    out_fold =
+        let f = subst (λ (o : Option Outstanding). FoldFacts p log (pending_of s) o s.head.play.digest) e h.base.fold in
+        (sym at ∙ f.0, f.1)
 
     room : presses log i < most → raised (pending_of s) ≡ suc (pending_of s)
     room rare =
@@ -252,18 +243,18 @@ module _ (p : SessionParams) (few : p.count ≤ seats) (log : Log) (i : ℕ) whe
     said_ok d rare t' d' (Memᴰ.tail x) = omega (arith, room rare, h.base.said t' d' x)
 
 module _ (p : SessionParams) (few : p.count ≤ seats) (log : Log) (i : ℕ) (li : i < p.count) where
-  uncommitted : (s : Session) (t : ℕ) (given : WorldDigest) (a : Commit) → commit_no a ≢ 0 → SessOk p log i s
-      → TurnGoal p log i (commit_turn i t given (Calls.committed s a))
+  uncommitted : (s : Session) (t : ℕ) (given : Option ℕ) (a : Commit) → commit_no a ≢ 0 → SessOk p log i s
+      → TurnGoal p log i (commit_turn i t given (session_with s a))
   unfolding commit_turn
   uncommitted s t given a n h rare = rw (refused_shows i t given a n) (quiet_ok h)
 
-  done_ok : (s : Session) (t : ℕ) (given : WorldDigest) (due : Bool) → s.head.play.step ≡ Out t due
+  done_ok : (s : Session) (t : ℕ) (given : Option ℕ) (out : Outstanding) → s.head.play.step ≡ Some out → out.tick ≡ t
       → SessOk p log i s → TurnGoal p log i
       (commit_turn i t given
-      (Calls.committed (keep_digest (with_head s (played s.head)) t given) Commit'.Done))
+      (session_with (keep_digest (with_head s (played s.head)) t given) (Ok tt)))
   unfolding commit_turn commit_shown keep_digest played
-  done_ok s t Absent due e h rare = quiet_ok (pend_ok p few log i li s t due e h (rare i li))
-  done_ok s t (Present d) due e h rare =
+  done_ok s t None out e at h rare = quiet_ok (pend_ok p few log i li s t out e at h (rare i li))
+  done_ok s t (Some d) out e at h rare =
       let longer = committed i t d ∷ log in
       let grown = unpressed_committed i log i t d in
       let few-here : presses log i < most = omega (arith, rare i li, grown.count) in
@@ -271,32 +262,32 @@ module _ (p : SessionParams) (few : p.count ≤ seats) (log : Log) (i : ℕ) (li
       record {
         session =
             print_ok p few longer i next t d
-            (sess_up grown (said_ok p few log i li s t due e h d few-here)
-            (pend_ok p few log i li s t due e h few-here)) (Memᴰ.head refl);
+            (sess_up grown (said_ok p few log i li s t out e at h d few-here)
+            (pend_ok p few log i li s t out e at h few-here)) (Memᴰ.head refl);
         sends = λ m x. elim x [ ];
         shows = single (EventOk p longer) tt;
-        once = once-committed i t d (unsaid p few log i li s t due e h);
+        once = once-committed i t d (unsaid p few log i li s t out e at h);
         others = λ j n. same_committed i j log t d n;
         keep = grown.keep;
       }
 
-  pub commit_ok : (s : Session) (t : ℕ) (given : WorldDigest) → SessOk p log i s
+  pub commit_ok : (s : Session) (t : ℕ) (given : Option ℕ) → SessOk p log i s
       → TurnGoal p log i (commit_turn i t given (commit s t given))
   commit_ok s t given h =
-      commit_cases (λ (r : Committed). TurnGoal p log i (commit_turn i t given r)) s t given
-      (λ a n. uncommitted s t given a n h) (λ due e _. done_ok s t given due e h)
+      commit_cases (λ (r : Answered Commit). TurnGoal p log i (commit_turn i t given r)) s t given
+      (λ a n. uncommitted s t given a n h) (λ out e at _. done_ok s t given out e at h)
 
 -- ---- leave
 
-left-not_desynced : {t u : ℕ} → Over (LeftLocally t) ≡ Over (Desynced u) → ⊥
+left-not_desynced : {t u : ℕ} → Some (LeftLocally t) ≡ Some (Desynced u) → ⊥
 left-not_desynced e = let z : ◌≡◌ {A = ℕ} 0 1 = cc in omega arith
 
 module _ {p : SessionParams} {log : Log} {i : ℕ} where
-  left_ok : (s : Session) (o : Standing) → s.head.outcome ≡ o → SessOk p log i s
+  left_ok : (s : Session) (o : Option Outcome) → s.head.outcome ≡ o → SessOk p log i s
       → SessOk p log i (with_head s (leave_by s.head o).head)
   unfolding leave_by
-  left_ok s (Over o) e h = h
-  left_ok s Open e h =
+  left_ok s (Some o) e h = h
+  left_ok s None e h =
       let b = h.base in
       record {
         base =
@@ -315,5 +306,5 @@ module _ {p : SessionParams} {log : Log} {i : ℕ} where
   pub leave_ok : (s : Session) → SessOk p log i s → SessOk p log i (leave s).session
   unfolding leave leave_head
   leave_ok s h =
-      by_test (λ (r : HeadLeft). SessOk p log i (with_head s r.head)) (λ _. h)
+      by_test (λ (r : HeadAnswered Leave). SessOk p log i (with_head s r.head)) (λ _. h)
       (λ _. left_ok s s.head.outcome refl h)

@@ -9,6 +9,7 @@ use mathlib.Core.List.{List, [], ◌∷◌}
 use native.Mathlib.Omega.{arith}
 use lib.ListN.{length}
 use borrow.Author.Tests.{eq-eqb}
+use Rattle.std.specs.Prelude.{Err, Ok}
 use Rattle.logic.specs.Saturating.{most, raised}
 use Rattle.logic.proofs.Cases.{by_test, if_true}
 use Rattle.peer.specs.Seats.{seats}
@@ -20,12 +21,10 @@ use Rattle.window.specs.declared.Window.{Window}
 use Rattle.window.proofs.Laws.{Wrote, fresh, older, write_is, written_sized, wrote}
 use Rattle.session.specs.declared.Head.{Head}
 use Rattle.session.specs.declared.Session.{Session}
-use Rattle.session.specs.declared.Submit.{Submit}
-use Rattle.session.specs.declared.Submit.TheVariants as Submit'
-use Rattle.session.specs.declared.Submitted.{Submitted}
-use Rattle.session.specs.Session.{session_of, with_head, started}
-use Rattle.session.specs.Numbers.{submit_no}
-use Rattle.session.specs.Host.{submitted, submit}
+use Rattle.session.specs.declared.Answered.{Answered}
+use Rattle.session.specs.Numbers.{Submit, submit_no}
+use Rattle.session.specs.Session.{session_of, with_head, session_with, started}
+use Rattle.session.specs.Host.{submit}
 use Rattle.session.specs.Host as Host
 use Rattle.session.proofs.Cases.{submit_cases}
 use Rattle.agreement.specs.World.{seated, pressed, press_shown, submit_turn}
@@ -111,20 +110,17 @@ module _ (p : SessionParams) (valid : Valid p) (log : Log) (i : ℕ) (li : i < p
   -- a refused press shows nothing
   hidden : (b : List ℕ) (a : Submit) → submit_no a ≢ 0 → press_shown i b a ≡ []
   unfolding press_shown
-  hidden b (Submit'.Accepted tick) n = absurd (n refl)
-  hidden b (Submit'.Ended o) n = refl
-  hidden b Submit'.BadState n = refl
-  hidden b (Submit'.WrongWidth saw agreed) n = refl
-  hidden b (Submit'.WindowFull tick pending) n = refl
+  hidden b (Ok tick) n = absurd (n refl)
+  hidden b (Err refusal) n = refl
 
   refused : (a : Submit) (b : List ℕ) (s : Session) → submit_no a ≢ 0 → SessOk p log i s
-      → TurnGoal p log i (submit_turn i b (submitted s a))
+      → TurnGoal p log i (submit_turn i b (session_with s a))
   unfolding submit_turn
   refused a b s n h few = rw (hidden b a n) (quiet_ok h)
 
   accepted : (s : Session) (b : List ℕ) (u : Session) → SessOk p log i s
       → (next_of s < most → SessOk p (pressed i (next_of s) b ∷ log) i u)
-      → TurnGoal p log i (submit_turn i b (submitted u (Submit'.Accepted (next_of s))))
+      → TurnGoal p log i (submit_turn i b (session_with u (Ok (next_of s))))
   unfolding submit_turn press_shown
   accepted s b u h g few = record {
     session = g (omega (arith, few i li, presses_more (next_of s) b, h.base.next.many));
@@ -137,7 +133,7 @@ module _ (p : SessionParams) (valid : Valid p) (log : Log) (i : ℕ) (li : i < p
 
   pub submit_ok : (s : Session) (b : List ℕ) → SessOk p log i s → TurnGoal p log i (submit_turn i b (submit s b))
   submit_ok s b h =
-      submit_cases (λ (r : Submitted). TurnGoal p log i (submit_turn i b r)) s b (λ a n. refused a b s n h)
+      submit_cases (λ (r : Answered Submit). TurnGoal p log i (submit_turn i b r)) s b (λ a n. refused a b s n h)
       (λ _ e.
       let lb : length b ≡ p.width = e ∙ ap (λ (x : SessionParams). x.width) h.base.par in
       accepted s b _ h (λ room. start_ok _ (press_ok s b lb room h)))

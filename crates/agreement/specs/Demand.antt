@@ -4,7 +4,7 @@
 -- submitted, and leave equal input digests. None ends as desynced at a tick unless two committed different world
 -- digests there. One with no outcome never holds its own and another's differing world digests for one tick." Assumes
 -- nothing.
-use Rattle.std.specs.Prelude.{ℕ, suc, ◌<◌, ◌≡◌, false, ◌≢◌, eqb, get_or, take}
+use Rattle.std.specs.Prelude.{ℕ, suc, ◌<◌, ◌≡◌, false, ◌≢◌, None, Some, eqb, get_or, take}
 use mathlib.Core.List.{List, [], ◌∷◌, Memᴰ}
 use Rattle.logic.specs.Test.{when◌then◌else◌}
 use Rattle.logic.specs.Saturating.{most}
@@ -13,9 +13,7 @@ use Rattle.params.specs.declared.SessionParams.{SessionParams}
 use Rattle.fingerprint.specs.Cells.{own_for, remote_for}
 use Rattle.fingerprint.specs.declared.Fingerprint.{Fingerprint}
 use Rattle.fingerprint.specs.declared.Fingerprints.{Fingerprints}
-use Rattle.fingerprint.specs.declared.Cell.TheVariants.{Holds}
 use Rattle.session.specs.declared.Outcome.TheVariants.{Desynced}
-use Rattle.session.specs.declared.Standing.TheVariants.{Open, Over}
 use Rattle.agreement.specs.World.{seated, Event, pressed, stepped, committed, World}
 
 -- ---- the premises
@@ -67,11 +65,11 @@ pub record Differ (p : SessionParams) (log : List Event) (i tick : ℕ) : Type 0
 -- its own and another's world digest for one tick do not differ
 abbrev pub AgreeAt : (count i : ℕ) → Fingerprints → (tick : ℕ) → Type 0
 AgreeAt count i prints tick = (k : ℕ) (mine theirs : Fingerprint) → k < count → k ≢ i
-    → own_for prints tick ≡ Holds mine → remote_for prints k tick ≡ Holds theirs → mine.state ≡ theirs.state
+    → own_for prints tick ≡ Some mine → remote_for prints k tick ≡ Some theirs → mine.state ≡ theirs.state
 
 pub record Demand3 (p : SessionParams) (w : World) : Type 0 where
   pub steps : (i j tick : ℕ) (rows others : List (List ℕ)) (digest other : ℕ)
       → Memᴰ (stepped i tick rows digest) w.log → Memᴰ (stepped j tick others other) w.log
       → SameStep p w.log tick rows others digest other
-  pub desynced : (i tick : ℕ) → i < p.count → (w.at i).head.outcome ≡ Over (Desynced tick) → Differ p w.log i tick
-  pub holds : (i tick : ℕ) → i < p.count → (w.at i).head.outcome ≡ Open → AgreeAt p.count i (w.at i).prints tick
+  pub desynced : (i tick : ℕ) → i < p.count → (w.at i).head.outcome ≡ Some (Desynced tick) → Differ p w.log i tick
+  pub holds : (i tick : ℕ) → i < p.count → (w.at i).head.outcome ≡ None → AgreeAt p.count i (w.at i).prints tick

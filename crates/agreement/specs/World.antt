@@ -1,26 +1,18 @@
 -- Demand 3's runs: "lists of calls, each on the state that the same session's last call handed back; a delivery gives
 -- any message that an earlier call of the list made, as often as you like". What is pressed, stepped and committed is
 -- taken from the calls' answers. Assumes nothing.
-use Rattle.std.specs.Prelude.{ℕ, ◌*◌, List, [], ◌∷◌, ◌++◌, eqb, ltb, take}
-use Rattle.std.proofs.Math.Option.{Option, none, some}
-use Rattle.std.proofs.Math.ListN.{get_elem?}
+use Rattle.std.specs.Prelude.{ℕ, ◌*◌, List, [], ◌∷◌, ◌++◌, Option, None, Some, Ok, Err, eqb, ltb, take, slice_get}
 use Rattle.logic.specs.Test.{when◌then◌else◌}
 use Rattle.params.specs.declared.SessionParams.{SessionParams}
 use Rattle.wire.specs.declared.Body.{Body}
 use Rattle.wire.specs.declared.Body.TheVariants as Body'
 use Rattle.wire.specs.declared.Message.{Message}
 use Rattle.session.specs.declared.Session.{Session}
-use Rattle.session.specs.declared.Submit.{Submit}
-use Rattle.session.specs.declared.Submit.TheVariants as Submit'
-use Rattle.session.specs.declared.Submitted.{Submitted}
+use Rattle.session.specs.declared.Answered.{Answered}
 use Rattle.session.specs.declared.Advance.{Advance}
 use Rattle.session.specs.declared.Advance.TheVariants as Advance'
 use Rattle.session.specs.declared.Advanced.{Advanced}
-use Rattle.session.specs.declared.WorldDigest.{WorldDigest}
-use Rattle.session.specs.declared.WorldDigest.TheVariants.{Absent, Present}
-use Rattle.session.specs.declared.Commit.{Commit}
-use Rattle.session.specs.declared.Commit.TheVariants as Commit'
-use Rattle.session.specs.declared.Committed.{Committed}
+use Rattle.session.specs.Numbers.{Submit, Commit}
 use Rattle.session.specs.Host.{opened, submit, leave}
 use Rattle.session.specs.Step.{advance, commit}
 use Rattle.deliver.specs.Deliver.{deliver}
@@ -72,7 +64,7 @@ pub data Call : Type 0 where
   submits : ℕ → List ℕ → Call
   delivers : ℕ → ℕ → Call
   advances : ℕ → Call
-  commits : ℕ → ℕ → WorldDigest → Call
+  commits : ℕ → ℕ → Option ℕ → Call
   leaves : ℕ → Call
   pumps : ℕ → Call
   asks : ℕ → Call
@@ -87,18 +79,15 @@ abbrev pub quiet : Session → Turn
 quiet s = record { session = s; sends = []; shows = [] }
 
 unfoldable pub press_shown : ℕ → List ℕ → Submit → List Event
-press_shown i bytes (Submit'.Accepted tick) = pressed i tick bytes ∷ []
-press_shown i bytes (Submit'.Ended o) = []
-press_shown i bytes Submit'.BadState = []
-press_shown i bytes (Submit'.WrongWidth saw agreed) = []
-press_shown i bytes (Submit'.WindowFull tick pending) = []
+press_shown i bytes (Ok tick) = pressed i tick bytes ∷ []
+press_shown i bytes (Err refusal) = []
 
-unfoldable pub submit_turn : ℕ → List ℕ → Submitted → Turn
+unfoldable pub submit_turn : ℕ → List ℕ → Answered Submit → Turn
 submit_turn i bytes r = record { session = r.session; sends = []; shows = press_shown i bytes r.answer }
 
 unfoldable pub deliver_turn : Session → Option Mail → Turn
-deliver_turn s none = quiet s
-deliver_turn s (some m) = quiet (deliver s m.source m.message m.run).session
+deliver_turn s None = quiet s
+deliver_turn s (Some m) = quiet (deliver s m.source m.message m.run).session
 
 unfoldable pub step_shown : ℕ → List (List ℕ) → ℕ → Advance → List Event
 step_shown i rows digest (Advance'.Step step) = stepped i step.tick rows digest ∷ []
@@ -111,17 +100,15 @@ unfoldable pub advance_turn : ℕ → Advanced → Turn
 advance_turn i r = record {
   session = r.session;
   sends = [];
-  shows = step_shown i r.frames.rows r.session.head.play.digest r.answer;
+  shows = step_shown i r.frames r.session.head.play.digest r.answer;
 }
 
-unfoldable pub commit_shown : ℕ → ℕ → WorldDigest → Commit → List Event
-commit_shown i tick (Present state) Commit'.Done = committed i tick state ∷ []
-commit_shown i tick Absent Commit'.Done = []
-commit_shown i tick given Commit'.BadState = []
-commit_shown i tick given (Commit'.OutOfOrder saw expected) = []
-commit_shown i tick given (Commit'.DigestMismatch saw owed) = []
+unfoldable pub commit_shown : ℕ → ℕ → Option ℕ → Commit → List Event
+commit_shown i tick (Some state) (Ok done) = committed i tick state ∷ []
+commit_shown i tick None (Ok done) = []
+commit_shown i tick given (Err refusal) = []
 
-unfoldable pub commit_turn : ℕ → ℕ → WorldDigest → Committed → Turn
+unfoldable pub commit_turn : ℕ → ℕ → Option ℕ → Answered Commit → Turn
 commit_turn i tick given r = record { session = r.session; sends = []; shows = commit_shown i tick given r.answer }
 
 -- the bytes of an Inputs' frames: the run that a pump hands out is longer, and zero past them
@@ -143,7 +130,7 @@ pump_turn i r = record { session = r.session; sends = mailed i r.answer r.run; s
 
 unfoldable pub turn : World → Call → Turn
 turn w (submits i bytes) = submit_turn i bytes (submit (w.at i) bytes)
-turn w (delivers i j) = deliver_turn (w.at i) (get_elem? w.mail j)
+turn w (delivers i j) = deliver_turn (w.at i) (slice_get w.mail j)
 turn w (advances i) = advance_turn i (advance (w.at i))
 turn w (commits i tick given) = commit_turn i tick given (commit (w.at i) tick given)
 turn w (leaves i) = quiet (leave (w.at i)).session

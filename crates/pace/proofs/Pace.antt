@@ -9,6 +9,7 @@ use native.Mathlib.Omega.{arith}
 use lib.Dec.{eqb, leb}
 use lib.ListN.{get_or}
 use borrow.Author.Tests.{eq-eqb, ne_eqb, le-leb, lt-ltb}
+use Rattle.std.specs.Prelude.{None, Ok, Option, Some}
 use Rattle.logic.specs.Test.{when◌then◌else◌}
 use Rattle.logic.specs.Saturating.{most, raised}
 use Rattle.logic.proofs.Cases.{by_test, if_false, decide, case_eq, and_both}
@@ -22,11 +23,7 @@ use Rattle.wire.specs.declared.Message.{Message}
 use Rattle.window.specs.Window.{held_by, is_held, frame_of}
 use Rattle.window.specs.declared.Window.{Window}
 use Rattle.window.proofs.Laws.{Sized}
-use Rattle.session.specs.declared.Standing.{Standing}
-use Rattle.session.specs.declared.Standing.TheVariants.{Open, Over}
-use Rattle.session.specs.declared.Outstanding.TheVariants.{Free}
-use Rattle.session.specs.declared.WorldDigest.{WorldDigest}
-use Rattle.session.specs.declared.WorldDigest.TheVariants.{Absent, Present}
+use Rattle.session.specs.declared.Outcome.{Outcome}
 use Rattle.session.specs.declared.Play.{Play}
 use Rattle.session.specs.declared.Head.{Head}
 use Rattle.session.specs.declared.Session.{Session}
@@ -34,23 +31,20 @@ use Rattle.session.specs.declared.Step.{Step}
 use Rattle.session.specs.declared.Advance.{Advance}
 use Rattle.session.specs.declared.Advance.TheVariants as Advance'
 use Rattle.session.specs.declared.Advanced.{Advanced}
-use Rattle.session.specs.declared.HeadAdvanced.{HeadAdvanced}
-use Rattle.session.specs.declared.Commit.TheVariants as Commit'
-use Rattle.session.specs.declared.Committed.{Committed}
+use Rattle.session.specs.declared.Answered.{Answered}
 use Rattle.session.specs.Session.{is_over, is_playing, every_seat, ended}
-use Rattle.session.specs.Numbers.{commit_no}
-use Rattle.session.specs.Step.{take_step, stepped, stall, play_on, advance_by, advance_from, advance_head, step_rows, advance}
-use Rattle.session.specs.Step.{played, judge, keep_digest, commit}
+use Rattle.session.specs.Numbers.{Commit, commit_no}
+use Rattle.session.specs.Step.{HeadAdvanced, take_step, stepped, stall, play_on, advance_by, advance_from, advance_head}
+use Rattle.session.specs.Step.{step_rows, advance, played, judge, keep_digest, commit}
 use Rattle.session.proofs.Cases.{is_idle, advance_cases, commit_cases}
 use Rattle.shown.specs.Ahead.{is_ready, readiness, ahead, ready_ticks}
-use Rattle.shown.specs.declared.Ready.TheVariants.{Ticks}
 use Rattle.shown.proofs.Front.{front_no, front_yes, front_more, front_last, front_same, ahead-most}
+use Rattle.deliver.specs.declared.Delivery.{Delivery}
 use Rattle.deliver.specs.Deliver.{deliver}
-use Rattle.deliver.specs.declared.Delivered.{Delivered}
 use Rattle.deliver.proofs.Laws.{Fit, deliver_bad, of_delivery, held_stays}
 
 -- a record that is not refused is answered with a number
-pub ready_is : (s : Session) → bad_state s.head.params ≡ false → ready_ticks s ≡ Ticks (ahead s.head s.window)
+pub ready_is : (s : Session) → bad_state s.head.params ≡ false → ready_ticks s ≡ Ok (ahead s.head s.window)
 unfolding ready_ticks
 ready_is s good = if_false _ _ good
 
@@ -78,12 +72,12 @@ stalls Advance'.BadState = false
 some_ready : {n m : ℕ} → n ≡ suc m → eqb n 0 ≡ false
 some_ready {n} e = ne_eqb n 0 (λ q. omega arith)
 
-no_outcome : (o : Standing) → not (is_over o) ≡ true → o ≡ Open
-no_outcome Open e = refl
-no_outcome (Over o) e = absurd (true≢false (sym e))
+no_outcome : (o : Option Outcome) → not (is_over o) ≡ true → o ≡ None
+no_outcome None e = refl
+no_outcome (Some o) e = absurd (true≢false (sym e))
 
 module _ (s : Session) (fits : s.head.play.pending ≤ most) (good : bad_state s.head.params ≡ false)
-    (free : s.head.play.step ≡ Free) (playing : is_playing s.head ≡ true) where
+    (free : s.head.play.step ≡ None) (playing : is_playing s.head ≡ true) where
   abbrev h : Head
   h = s.head
 
@@ -148,8 +142,8 @@ advances s =
     }
 
 -- a commit that is not refused raises it
-record Commits (s : Session) (r : Committed) : Type 0 where
-  left : r.answer ≡ Commit'.Done → Left s r.session (raised s.head.play.pending)
+record Commits (s : Session) (r : Answered Commit) : Type 0 where
+  left : r.answer ≡ Ok tt → Left s r.session (raised s.head.play.pending)
 
 judge-left : (s : Session) (tick : ℕ) → Left s (judge s tick) s.head.play.pending
 unfolding judge ended
@@ -157,17 +151,17 @@ judge-left s tick =
     by_test (λ (t : Session). Left s t s.head.play.pending)
     (λ _. record { params = refl; window = refl; at = refl }) (λ _. record { params = refl; window = refl; at = refl })
 
-digest_left : (s : Session) (tick : ℕ) (given : WorldDigest) → Left s (keep_digest s tick given) s.head.play.pending
+digest_left : (s : Session) (tick : ℕ) (given : Option ℕ) → Left s (keep_digest s tick given) s.head.play.pending
 unfolding keep_digest
-digest_left s tick Absent = record { params = refl; window = refl; at = refl }
-digest_left s tick (Present state) =
+digest_left s tick None = record { params = refl; window = refl; at = refl }
+digest_left s tick (Some state) =
     let j = judge-left _ tick in record { params = j.params; window = j.window; at = j.at }
 
-commits : (s : Session) (tick : ℕ) (given : WorldDigest) → Commits s (commit s tick given)
+commits : (s : Session) (tick : ℕ) (given : Option ℕ) → Commits s (commit s tick given)
 unfolding played
 commits s tick given =
     commit_cases (Commits s) s tick given (λ a n. record { left = λ q. absurd (n (ap commit_no q)) })
-    (λ due _ _.
+    (λ out _ _ _.
     let d = digest_left _ tick given in
     record { left = λ _. record { params = d.params; window = d.window; at = d.at } })
 
@@ -198,9 +192,9 @@ ready_same : (h k : Head) (w : Window) (tick : ℕ) → k.params ≡ h.params �
 unfolding is_ready every_seat
 ready_same h k w tick e = rw e
 
-module _ (s : Session) (step : Step) (given : WorldDigest)
+module _ (s : Session) (step : Step) (given : Option ℕ)
     (stepped : (advance s).answer ≡ Advance'.Step step)
-    (done : (commit (advance s).session step.tick given).answer ≡ Commit'.Done) where
+    (done : (commit (advance s).session step.tick given).answer ≡ Ok tt) where
   abbrev after : Session
   after = (commit (advance s).session step.tick given).session
 
@@ -277,7 +271,7 @@ module _ (s : Session) (fit : Fit s.head.stats) (sized : Sized s.window) (source
   never_lower =
       decide (bad_state s.head.params)
       (λ bad.
-      let same : heard ≡ s = ap (λ (d : Delivered). d.session) (deliver_bad s source m run bad) in
+      let same : heard ≡ s = ap (λ (d : Answered Delivery). d.session) (deliver_bad s source m run bad) in
       subst (λ (t : Session). ahead s.head s.window ≤ ahead t.head t.window) (sym same) (omega arith))
       (λ good.
       let at : heard.head.play.pending ≡ s.head.play.pending =

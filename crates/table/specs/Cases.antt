@@ -1,7 +1,7 @@
 -- Document 01, "Both sides of each limit": the cases P1 to P10 in its order, as one table, with a row for each side of
 -- a limit. What is computed is computed from the definitions that the calls are promised to meet, and every session is
 -- grown by such calls from `opened`. Assumes nothing.
-use Rattle.std.specs.Prelude.{ℕ, zero, suc, List, [], ◌∷◌}
+use Rattle.std.specs.Prelude.{ℕ, zero, suc, List, [], ◌∷◌, Some, Ok, Err}
 use Rattle.hash.specs.Fnv.{start, fnv}
 use Rattle.peer.specs.Seats.{bit}
 use Rattle.params.specs.Params.{validity_no, agreement_of}
@@ -11,14 +11,12 @@ use Rattle.wire.specs.declared.Body.TheVariants.{Hello, Inputs}
 use Rattle.window.specs.Window.{is_held}
 use Rattle.session.specs.declared.Outcome.{Outcome}
 use Rattle.session.specs.declared.Outcome.TheVariants.{Desynced, PeerLeft, LeftLocally}
-use Rattle.session.specs.declared.WorldDigest.TheVariants.{Present}
 use Rattle.session.specs.declared.Session.{Session}
-use Rattle.session.specs.declared.Leave.{Leave}
-use Rattle.session.specs.declared.Leave.TheVariants as Leave'
-use Rattle.session.specs.Numbers.{leave_no}
+use Rattle.session.specs.declared.Answered.{Answered}
+use Rattle.session.specs.Numbers.{Leave, leave_no}
 use Rattle.session.specs.Host.{opened, submit, leave}
 use Rattle.session.specs.Step.{advance, commit}
-use Rattle.deliver.specs.declared.Delivered.{Delivered}
+use Rattle.deliver.specs.declared.Delivery.{Delivery}
 use Rattle.deliver.specs.Numbers.{delivery_no}
 use Rattle.deliver.specs.Deliver.{deliver}
 
@@ -46,7 +44,7 @@ abbrev pub new : Session
 new = (opened pair).session
 
 -- what comes in from seat 1
-abbrev pub hears : Session → Body → List ℕ → Delivered
+abbrev pub hears : Session → Body → List ℕ → Answered Delivery
 hears s body run = deliver s 1 (record { sender = 1; session = 9; body = body }) run
 
 -- its Hello, over the same parameters
@@ -64,7 +62,7 @@ greeted s =
     })) []).session
 
 -- its presses for `count` ticks from the first on, a byte each
-abbrev pub sends : Session → (first count : ℕ) → List ℕ → Delivered
+abbrev pub sends : Session → (first count : ℕ) → List ℕ → Answered Delivery
 sends s first count run = hears s (Inputs (record { first = first; count = count; width = 1 })) run
 
 -- its press for tick 0 is in, and that for tick 1 too
@@ -80,7 +78,7 @@ pressed s tick = (sends (submit s (0x41 ∷ [])).session tick 1 (0x42 ∷ [])).s
 
 -- the tick is stepped and committed
 abbrev pub stepped : Session → ℕ → Session
-stepped s tick = (commit (advance s).session tick (Present 5)).session
+stepped s tick = (commit (advance s).session tick (Some 5)).session
 
 -- the session that has played the ticks below n, so that n is pending
 unfoldable pub played : ℕ → Session
@@ -94,7 +92,7 @@ abbrev pub open_no : (count delay period : ℕ) → ℕ
 open_no count delay period = validity_no (opened (circle count delay period)).answer
 
 -- of a delivery: pending, the answer; the six counters; and 1 if seat 1's frame for the tick is held afterwards
-abbrev pub counted : Delivered → ℕ → List ℕ
+abbrev pub counted : Answered Delivery → ℕ → List ℕ
 counted d tick =
     d.session.head.play.pending ∷ delivery_no d.answer
     ∷ d.session.head.stats.datagrams_refused ∷ d.session.head.stats.frames_repeated
@@ -114,8 +112,8 @@ when (PeerLeft peer tick) = tick
 when (LeftLocally tick) = tick
 
 abbrev pub ending : Leave → List ℕ
-ending (Leave'.Ended o) = why o ∷ when o ∷ []
-ending Leave'.BadState = []
+ending (Ok o) = why o ∷ when o ∷ []
+ending (Err bad) = []
 
 -- of a leave: pending, the answer, and the outcome
 abbrev pub left : Session → List ℕ
