@@ -8,274 +8,141 @@
 mod answers;
 mod report;
 
-ghost use Rattle.std.specs.Prelude.{◌≤◌, ◌<◌, ◌≡◌, length};
-ghost use Rattle.script.specs.Records.{longest};
-
 use params::SessionParams;
 use script::{Asked, Call};
-use session::{Session, WorldDigest};
-use std::io::{Read as _, Stdin, Stdout};
-use wire::Message;
+use session::Session;
+use std::io::{Read, Stdin, Stdout};
+use text::Text;
 
-// What a record came to: the session that stands, and how many bytes the line in the lent buffer has.
-#[derive(Drop)]
-struct Answered {
-    pub session: Session,
-    pub size: usize,
-}
-
-// A record at the front of the buffer. `size` is 0 at the end of the input, and where the record is cut it is not
-// whole.
+// What was read: a whole record, one that the end of the input cuts, or nothing.
 #[derive(Clone, Copy)]
-struct Read {
-    pub size: usize,
-    pub whole: bool,
-}
-
-// Between two records.
-#[derive(Drop)]
-struct Turn {
-    pub session: Session,
-    pub going: bool,
+enum Record<'a> {
+    Whole(&'a [u8]),
+    Cut,
+    End,
 }
 
 // ---- the calls
 
-fn world(flag: u8, digest: u64) -> WorldDigest {
-    if flag == 0 {
-        return WorldDigest::Absent;
-    }
-    WorldDigest::Present(digest)
-}
-
-// Before a good open: a session over parameters that no open takes.
-fn no_session() -> Session {
-    let params = SessionParams {
-        count: 0,
-        local: 0,
-        width: 0,
-        delay: 0,
-        period: 0,
-        seed: 0,
-        content: 0,
-        rules: 0,
-        session: 0,
-    };
-    Session::open(params).session
-}
-
 // A good open replaces the session, a refused one leaves it.
-fn open(s: Session, out: &mut [u8; text::LIMIT], params: SessionParams) -> Answered {
-    let r = Session::open(params);
-    let answer = r.answer;
-    let size = answers::of_open(out, answer);
-    if answer.number() == 0 {
-        let session = r.session;
-        return Answered { session, size };
-    }
-    Answered { session: s, size }
-}
-
-fn submit(s: Session, out: &mut [u8; text::LIMIT], press: &[u8]) -> Answered {
-    let r = s.submit(press);
-    let answer = r.answer;
-    let session = r.session;
-    Answered {
-        session: session,
-        size: answers::of_submit(out, answer),
+fn open(s: &mut Session, out: &mut Text, params: SessionParams) {
+    let opened = Session::open(params);
+    answers::of_open(out, opened.answer);
+    if opened.answer.is_ok() {
+        *s = opened.session;
     }
 }
 
-fn take_in(
-    s: Session,
-    out: &mut [u8; text::LIMIT],
-    source: u8,
-    message: Message,
-    run: &[u8],
-) -> Answered {
-    let r = deliver::deliver(s, source, message, run);
-    let answer = r.answer;
-    let session = r.session;
-    Answered {
-        session: session,
-        size: answers::of_deliver(out, answer),
-    }
-}
-
-fn advance(s: Session, out: &mut [u8; text::LIMIT]) -> Answered {
-    let r = s.advance();
-    let answer = r.answer;
-    let session = r.session;
-    Answered {
-        session: session,
-        size: answers::of_advance(out, answer),
-    }
-}
-
-fn commit(s: Session, out: &mut [u8; text::LIMIT], tick: u64, digest: WorldDigest) -> Answered {
-    let r = s.commit(tick, digest);
-    let answer = r.answer;
-    let session = r.session;
-    Answered {
-        session: session,
-        size: answers::of_commit(out, answer),
-    }
-}
-
-fn leave(s: Session, out: &mut [u8; text::LIMIT]) -> Answered {
-    let r = s.leave();
-    let answer = r.answer;
-    let session = r.session;
-    Answered {
-        session: session,
-        size: answers::of_leave(out, answer),
-    }
-}
-
-fn send_out(s: Session, out: &mut [u8; text::LIMIT]) -> Answered {
-    let r = pump::next_outbound(s);
-    let answer = r.answer;
-    let session = r.session;
-    Answered {
-        session: session,
-        size: answers::of_pump(out, answer),
-    }
-}
-
-fn make(s: Session, out: &mut [u8; text::LIMIT], asked: Call, bytes: &[u8]) -> Answered {
+fn make(s: &mut Session, out: &mut Text, asked: Call, bytes: &[u8]) {
     match asked {
-        Call::Submit => submit(s, out, bytes),
-        Call::Deliver { source, message } => take_in(s, out, source, message, bytes),
-        Call::Advance => advance(s, out),
-        Call::Commit { tick, flag, digest } => commit(s, out, tick, world(flag, digest)),
-        Call::Leave => leave(s, out),
-        Call::Pump => send_out(s, out),
-        Call::Report => Answered {
-            session: s,
-            size: report::three_times(s, out),
-        },
-    }
-}
-
-fn said(session: Session, out: &mut [u8; text::LIMIT], word: &[u8]) -> Answered {
-    Answered {
-        session: session,
-        size: text::piece(out, 0, word),
+        Call::Submit => {
+            let submitted = s.submit(bytes);
+            *s = submitted.session;
+            answers::of_submit(out, submitted.answer);
+        }
+        Call::Deliver { source, message } => {
+            let delivered = deliver::deliver(*s, source, message, bytes);
+            *s = delivered.session;
+            answers::of_deliver(out, delivered.answer);
+        }
+        Call::Advance => {
+            let advanced = s.advance();
+            *s = advanced.session;
+            answers::of_advance(out, advanced.answer);
+        }
+        Call::Commit { tick, digest } => {
+            let committed = s.commit(tick, digest);
+            *s = committed.session;
+            answers::of_commit(out, committed.answer);
+        }
+        Call::Leave => {
+            let left = s.leave();
+            *s = left.session;
+            answers::of_leave(out, left.answer);
+        }
+        Call::Pump => {
+            let pumped = pump::next_outbound(*s);
+            *s = pumped.session;
+            answers::of_pump(out, pumped.answer);
+        }
+        Call::Report => report::three_times(s, out),
     }
 }
 
 // Before a good open only an open does anything.
-fn answer(s: Session, out: &mut [u8; text::LIMIT], record: &[u8]) -> Answered {
-    let asked = script::asked_by(record);
-    match asked {
-        Asked::Bad => said(s, out, b"bad"),
+fn answer(s: &mut Session, out: &mut Text, record: &[u8]) {
+    match script::asked_by(record) {
+        Asked::Bad => out.piece(b"bad"),
         Asked::Open(params) => open(s, out, params),
-        Asked::Of(asked_of) => {
+        Asked::Of(call) => {
             if s.head.params.bad_state() {
-                return said(s, out, b"none");
+                out.piece(b"none");
+            } else {
+                make(s, out, call, script::rest_of(record));
             }
-            make(s, out, asked_of, script::rest_of(record))
         }
     }
 }
 
 // ---- reading and writing
 
-// How many bytes follow a header.
-fn payload(low: u8, high: u8) -> usize
-    ensures { result < 65536 }
-{
-    low as usize + high as usize * 256
-}
-
-// A header at the front of the buffer.
-fn place(buf: &mut [u8], head: [u8; script::HEADER])
-    requires { length buf.old ≡ longest }
-{
-    buf[0] = head[0];
-    buf[1] = head[1];
-    buf[2] = head[2];
-    buf[3] = head[3];
-}
-
 // The header first, which says how many bytes follow.
-fn read_record(mut from: Stdin, buf: &mut [u8]) -> Read
-    requires { length buf.old ≡ longest }
-    ensures { result.size ≤ longest }
-{
-    let mut head = [0u8; script::HEADER];
-    let got = match from.read(&mut head) {
-        Ok(n) => n,
-        Err(_) => 0,
-    };
-    let some = Read {
-        size: got,
-        whole: false,
-    };
+fn read_record(mut from: Stdin, buf: &mut [u8; script::LONGEST]) -> Record<'_> {
+    let mut header = [0u8; script::HEADER];
+    let got = from.read(&mut header).unwrap_or(0);
     if got == 0 {
-        return some;
+        return Record::End;
     }
-    if from.read_exact(&mut head[got..]).is_err() {
-        return some;
+    if from.read_exact(&mut header[got..]).is_err() {
+        return Record::Cut;
     }
-    let size = payload(head[0], head[1]);
+    let size = usize::from(u16::from_le_bytes([header[0], header[1]]));
     let end = script::HEADER + size;
-    place(buf, head);
-    let rest = from.read_exact(&mut buf[script::HEADER..end]);
-    Read {
-        size: end,
-        whole: rest.is_ok(),
+    buf[..script::HEADER].copy_from_slice(&header);
+    if from.read_exact(&mut buf[script::HEADER..end]).is_err() {
+        return Record::Cut;
     }
+    Record::Whole(&buf[..end])
 }
 
-// Writes the first bytes of a buffer. It says whether that could be done.
-fn put_out(to: Stdout, bytes: &[u8], size: usize) -> bool {
-    let n = logic::least(size, bytes.len());
-    to.write_all(&bytes[..n]).is_ok()
+// Ends the line and writes it. It says whether that could be done.
+fn say(to: Stdout, out: &mut Text) -> bool {
+    out.byte(b'\n');
+    to.write_all(out.as_bytes()).is_ok()
 }
 
-// Ends the line in the buffer and writes it.
-fn say(to: Stdout, out: &mut [u8; text::LIMIT], size: usize) -> bool {
-    let n = text::byte(out, size, b'\n');
-    put_out(to, out, n)
-}
-
-// The next record, if the input holds one.
-fn take_turn(from: Stdin, to: Stdout, t: Turn, buf: &mut [u8], out: &mut [u8; text::LIMIT]) -> Turn
-    requires { length buf.old ≡ longest }
-{
-    let session = t.session;
-    let read = read_record(from, buf);
-    if !read.whole {
-        if read.size > 0 {
-            let cut = text::piece(out, 0, b"cut");
-            say(to, out, cut);
+// The next record, if the input holds one: whether to go on.
+fn take_turn(
+    from: Stdin,
+    to: Stdout,
+    s: &mut Session,
+    buf: &mut [u8; script::LONGEST],
+    out: &mut Text,
+) -> bool {
+    out.clear();
+    match read_record(from, buf) {
+        Record::Whole(record) => {
+            answer(s, out, record);
+            say(to, out)
         }
-        return Turn {
-            session: session,
-            going: false,
-        };
-    }
-    let answered = answer(session, out, &buf[..read.size]);
-    let next = answered.session;
-    Turn {
-        session: next,
-        going: say(to, out, answered.size),
+        Record::Cut => {
+            out.piece(b"cut");
+            say(to, out);
+            false
+        }
+        Record::End => false,
     }
 }
 
-// A proved loop has to end, and nothing says that the input does: the turns are counted down from a number that no run
-// uses up.
+// A proved loop has to end, and nothing says that the input does: it goes over more turns than any run uses up. Before
+// a good open stands a session over parameters that no open takes.
 fn main(rt: HostRuntime) {
     let mut buf = [0u8; script::LONGEST];
-    let mut out = [0u8; text::LIMIT];
-    let mut t = Turn {
-        session: no_session(),
-        going: true,
-    };
-    let mut turns = u64::MAX;
-    while turns > 0 && t.going {
-        t = take_turn(rt.stdin(), rt.stdout(), t, &mut buf, &mut out);
-        turns -= 1;
+    let mut out = Text::new();
+    let mut s = Session::open(SessionParams::default()).session;
+    for _ in 0..u64::MAX {
+        if !take_turn(rt.stdin(), rt.stdout(), &mut s, &mut buf, &mut out) {
+            break;
+        }
     }
 }

@@ -3,10 +3,11 @@
 // printed.
 #![tactic(auto)]
 
-use deliver::Delivered;
+use deliver::Delivery;
 use hash::StateHash;
+use logic::Numbered;
 use params::SessionParams;
-use session::{Leave, Outcome, Session, WorldDigest};
+use session::{Answered, Outcome, Session};
 use std::io;
 use wire::{Body, HelloBody, InputsBody, Message};
 
@@ -14,11 +15,11 @@ use wire::{Body, HelloBody, InputsBody, Message};
 
 fn circle(count: u8, delay: u8, period: u8) -> SessionParams {
     SessionParams {
-        count: count,
+        count,
         local: 0,
         width: 1,
-        delay: delay,
-        period: period,
+        delay,
+        period,
         seed: 0,
         content: 0,
         rules: 0,
@@ -30,11 +31,11 @@ fn new() -> Session {
     Session::open(circle(2, 0, 1)).session
 }
 
-fn hears(s: Session, body: Body, run: &[u8]) -> Delivered {
+fn hears(s: Session, body: Body, run: &[u8]) -> Answered<Delivery> {
     let message = Message {
         sender: 1,
         session: 9,
-        body: body,
+        body,
     };
     deliver::deliver(s, 1, message, run)
 }
@@ -53,10 +54,10 @@ fn greeted(s: Session) -> Session {
     hears(s, Body::Hello(hello), b"").session
 }
 
-fn sends(s: Session, first: u64, count: u8, run: &[u8]) -> Delivered {
+fn sends(s: Session, first: u64, count: u8, run: &[u8]) -> Answered<Delivery> {
     let inputs = InputsBody {
-        first: first,
-        count: count,
+        first,
+        count,
         width: 1,
     };
     hears(s, Body::Inputs(inputs), run)
@@ -76,10 +77,7 @@ fn pressed(s: Session, tick: u64) -> Session {
 }
 
 fn stepped(s: Session, tick: u64) -> Session {
-    s.advance()
-        .session
-        .commit(tick, WorldDigest::Present(5))
-        .session
+    s.advance().session.commit(tick, Some(5)).session
 }
 
 fn plays(s: Session, tick: u64) -> Session {
@@ -101,55 +99,43 @@ fn end_line(rt: &impl Print) -> io::Result<()> {
 }
 
 fn opens(rt: &impl Print, number: u64, params: SessionParams) -> io::Result<()> {
-    let answer = Session::open(params).answer;
+    let opened = Session::open(params);
     case(rt, number)?;
-    show(rt, answer.number() as u64)?;
+    show(rt, u64::from(opened.answer.number()))?;
     end_line(rt)
 }
 
-fn counts(rt: &impl Print, number: u64, d: Delivered, tick: u64) -> io::Result<()> {
-    let answer = d.answer;
-    let session = d.session;
-    let stats = session.head.stats;
-    let window = session.window;
+fn counts(rt: &impl Print, number: u64, d: Answered<Delivery>, tick: u64) -> io::Result<()> {
+    let stats = d.session.head.stats;
     case(rt, number)?;
-    show(rt, session.head.play.pending)?;
-    show(rt, answer.number() as u64)?;
+    show(rt, d.session.head.play.pending)?;
+    show(rt, u64::from(d.answer.number()))?;
     show(rt, stats.datagrams_refused)?;
     show(rt, stats.frames_repeated)?;
     show(rt, stats.frames_contradicted)?;
     show(rt, stats.frames_out_of_window)?;
     show(rt, stats.digests_contradicted)?;
     show(rt, stats.stall_pumps)?;
-    let ticks = window.ticks;
-    let present = window.present;
-    show(rt, window::holds(&ticks, &present, 1, tick) as u64)?;
+    show(rt, u64::from(d.session.window.holds(1, tick)))?;
     end_line(rt)
 }
 
 fn show_outcome(rt: &impl Print, outcome: Outcome) -> io::Result<()> {
-    match outcome {
-        Outcome::Desynced { tick } => {
-            show(rt, 1)?;
-            show(rt, tick)
-        }
-        Outcome::PeerLeft { peer: _, tick } => {
-            show(rt, 2)?;
-            show(rt, tick)
-        }
-        Outcome::LeftLocally { tick } => {
-            show(rt, 3)?;
-            show(rt, tick)
-        }
-    }
+    let (why, tick) = match outcome {
+        Outcome::Desynced { tick } => (1, tick),
+        Outcome::PeerLeft { tick, .. } => (2, tick),
+        Outcome::LeftLocally { tick } => (3, tick),
+    };
+    show(rt, why)?;
+    show(rt, tick)
 }
 
 fn leaves(rt: &impl Print, number: u64, s: Session) -> io::Result<()> {
     case(rt, number)?;
     show(rt, s.head.play.pending)?;
-    let answer = s.leave().answer;
-    show(rt, answer.number() as u64)?;
-    if let Leave::Ended(outcome) = answer {
+    let left = s.leave();
+    show(rt, u64::from(left.answer.number()))?;
+    if let Ok(outcome) = left.answer {
         show_outcome(rt, outcome)?;
     }
     end_line(rt)

@@ -7,20 +7,18 @@
 
 ghost use Rattle.std.specs.Prelude.{◌≤◌, IfOk, length};
 
-use fingerprint::{Cell, Fingerprint};
+use fingerprint::Fingerprint;
+use logic::Numbered;
 use params::SessionParams;
 use runner::Form;
-use session::{
-    Emit, Head, Marks, Outcome, Outstanding, Pass, Play, Session, Standing, WorldDigest,
-};
-use shown::Ready;
+use session::{Emit, Marks, Outcome, Outstanding, Pass, Play, Session};
 use stats::SessionStats;
 use std::io;
 use std::io::{Read, Stdin, Stdout};
 use window::Window;
 use wire::{Body, ByeBody, Message};
 
-const MOST: u64 = 18446744073709551615;
+const MOST: u64 = u64::MAX;
 
 // How many bytes of a script are read, at most.
 const READ: usize = 65536;
@@ -28,7 +26,7 @@ const READ: usize = 65536;
 // Three seats, of which this is seat 1; two bytes a tick, delay 1, a digest every other tick.
 fn trio(count: u8) -> SessionParams {
     SessionParams {
-        count: count,
+        count,
         local: 1,
         width: 2,
         delay: 1,
@@ -46,42 +44,30 @@ fn base() -> Session {
 
 // A session that differs from a new one in what it plays and what it has seen.
 fn with(play: Play, marks: Marks) -> Session {
-    let b = base();
-    let h = b.head;
-    let head = Head {
-        play: play,
-        marks: marks,
-        ..h
-    };
-    Session { head: head, ..b }
+    let mut s = base();
+    s.head.play = play;
+    s.head.marks = marks;
+    s
 }
 
 fn at_ticks(pending: u64, next_local: u64) -> Play {
-    let h = base().head;
-    let play = h.play;
     Play {
-        pending: pending,
-        next_local: next_local,
-        ..play
+        pending,
+        next_local,
+        ..base().head.play
     }
 }
 
 fn started() -> Marks {
-    let h = base().head;
-    let marks = h.marks;
     Marks {
         started: true,
-        ..marks
+        ..base().head.marks
     }
 }
 
-fn over(s: Session, outcome: Outcome) -> Session {
-    let h = s.head;
-    let head = Head {
-        outcome: Standing::Over(outcome),
-        ..h
-    };
-    Session { head: head, ..s }
+fn over(mut s: Session, outcome: Outcome) -> Session {
+    s.head.outcome = Some(outcome);
+    s
 }
 
 // Every tick number at its last.
@@ -116,16 +102,21 @@ fn plays_though_over() -> Session {
     over(with(at_ticks(4, 9), marks), outcome)
 }
 
+fn step_out(play: Play, tick: u64) -> Play {
+    Play {
+        step: Some(Outstanding { tick, due: true }),
+        ..play
+    }
+}
+
 // A step is out for another tick than the pending one.
 fn steps_elsewhere() -> Session {
-    let play = Play {
-        step: Outstanding::Out {
-            tick: 77,
-            due: true,
-        },
-        ..at_ticks(5, 6)
-    };
-    with(play, started())
+    with(step_out(at_ticks(5, 6), 77), started())
+}
+
+fn owing(mut s: Session, tick: u64, state: u64, input: u64) -> Session {
+    s.head.owed = Some(Fingerprint { tick, state, input });
+    s
 }
 
 // One's own cell 3 holds a print of tick 100, which belongs in cell 4. Cell 9 holds tick 9, of which seat 2 has another
@@ -135,97 +126,63 @@ fn prints_astray() -> Session {
         hellos: 7,
         ..started()
     };
-    let play = Play {
-        step: Outstanding::Out { tick: 9, due: true },
-        ..at_ticks(9, 9)
-    };
-    let b = with(play, marks);
-    let mut p = b.prints;
-    p.held[3] = true;
-    p.ticks[3] = 100;
-    p.states[3] = 11;
-    p.inputs[3] = 12;
-    p.held[9] = true;
-    p.ticks[9] = 9;
-    p.states[9] = 13;
-    p.inputs[9] = 14;
-    p.held[25] = true;
-    p.ticks[25] = 25;
-    p.states[25] = 15;
-    p.held[57] = true;
-    p.ticks[57] = 9;
-    p.states[57] = 16;
-    p.inputs[57] = 17;
-    let h = b.head;
-    let head = Head {
-        owed: Cell::Holds(Fingerprint {
-            tick: 40,
-            state: 41,
-            input: 42,
-        }),
-        ..h
-    };
-    Session {
-        head: head,
-        prints: p,
-        ..b
-    }
+    let mut s = with(step_out(at_ticks(9, 9), 9), marks);
+    s.prints.held[3] = true;
+    s.prints.ticks[3] = 100;
+    s.prints.states[3] = 11;
+    s.prints.inputs[3] = 12;
+    s.prints.held[9] = true;
+    s.prints.ticks[9] = 9;
+    s.prints.states[9] = 13;
+    s.prints.inputs[9] = 14;
+    s.prints.held[25] = true;
+    s.prints.ticks[25] = 25;
+    s.prints.states[25] = 15;
+    s.prints.held[57] = true;
+    s.prints.ticks[57] = 9;
+    s.prints.states[57] = 16;
+    s.prints.inputs[57] = 17;
+    owing(s, 40, 41, 42)
 }
 
 // The same, over as desynced at tick 9, which one's own cell holds and seat 2 denies, with pending at 0 again.
 fn parted_astray() -> Session {
-    let s = over(prints_astray(), Outcome::Desynced { tick: 9 });
-    let h = s.head;
-    let play = h.play;
-    let again = Play { pending: 0, ..play };
-    let head = Head { play: again, ..h };
-    Session { head: head, ..s }
+    let mut s = over(prints_astray(), Outcome::Desynced { tick: 9 });
+    s.head.play.pending = 0;
+    s
 }
 
 // The pump in the middle of a pass, at seats that are none.
 fn pump_past_the_seats() -> Session {
-    let b = with(at_ticks(0, 3), started());
-    let h = b.head;
-    let head = Head {
-        pass: Pass {
-            kind: Emit::Inputs,
-            place: 255,
-        },
-        owed: Cell::Holds(Fingerprint {
-            tick: MOST,
-            state: 1,
-            input: 2,
-        }),
-        ..h
+    let mut s = with(at_ticks(0, 3), started());
+    s.head.pass = Pass {
+        kind: Emit::Inputs,
+        place: 255,
     };
-    Session { head: head, ..b }
+    owing(s, MOST, 1, 2)
 }
 
 // It says Bye, and is not over.
 fn pump_says_bye() -> Session {
-    let b = base();
-    let h = b.head;
-    let head = Head {
-        play: at_ticks(4, 0),
-        pass: Pass {
-            kind: Emit::Bye,
-            place: 1,
-        },
-        ..h
+    let mut s = base();
+    s.head.play = at_ticks(4, 0);
+    s.head.pass = Pass {
+        kind: Emit::Bye,
+        place: 1,
     };
-    Session { head: head, ..b }
+    s
 }
 
 // Cells of the ring that hold every seat, one for a tick 64 beyond pending.
 fn ring_of_strangers() -> Session {
-    let b = with(at_ticks(6, 70), started());
-    let mut w = b.window;
-    w.ticks[5] = 69;
-    w.present[5] = peer::PeerSet::of_count(peer::SEATS).bits();
-    w.ticks[6] = 6;
-    w.present[6] = peer::PeerSet::of_count(peer::SEATS).bits();
-    w.ring[(64 + 6) * 16] = 171;
-    Session { window: w, ..b }
+    let mut s = with(at_ticks(6, 70), started());
+    let everybody = peer::PeerSet::of_count(peer::SEATS).bits();
+    s.window.ticks[5] = 69;
+    s.window.present[5] = everybody;
+    s.window.ticks[6] = 6;
+    s.window.present[6] = everybody;
+    s.window.ring[(64 + 6) * 16] = 171;
+    s
 }
 
 // Every counter at its end, and the last stall at this tick.
@@ -234,20 +191,16 @@ fn counters_full() -> Session {
         stalled: 0,
         ..at_ticks(0, 0)
     };
-    let b = with(play, started());
-    let h = b.head;
-    let head = Head {
-        stats: SessionStats {
-            datagrams_refused: MOST,
-            frames_repeated: MOST,
-            frames_contradicted: MOST,
-            frames_out_of_window: MOST,
-            digests_contradicted: MOST,
-            stall_pumps: MOST,
-        },
-        ..h
+    let mut s = with(play, started());
+    s.head.stats = SessionStats {
+        datagrams_refused: MOST,
+        frames_repeated: MOST,
+        frames_contradicted: MOST,
+        frames_out_of_window: MOST,
+        digests_contradicted: MOST,
+        stall_pumps: MOST,
     };
-    Session { head: head, ..b }
+    s
 }
 
 // Parameters that no open takes: 20.
@@ -259,30 +212,20 @@ fn too_many_seats() -> Session {
 
 // Every seat's frame for each of the ticks 0 to 63.
 fn full_window() -> Window {
-    let mut ticks = [0u64; window::SLOTS];
-    let mut cell: usize = 0;
-    while cell < window::SLOTS {
-        ticks[cell] = cell as u64;
-        cell += 1;
+    let mut w = Window::new();
+    for cell in 0..window::SLOTS {
+        w.ticks[cell] = cell as u64;
     }
-    let b = Window::new();
-    Window {
-        ticks: ticks,
-        present: [7; window::SLOTS],
-        ..b
-    }
+    w.present = [7; window::SLOTS];
+    w
 }
 
 // A new session over it, but for where it is.
-fn over_window(play: Play, w: Window) -> Session {
-    let b = base();
-    let h = b.head;
-    let head = Head { play: play, ..h };
-    Session {
-        head: head,
-        window: w,
-        ..b
-    }
+fn over_window(play: Play, window: Window) -> Session {
+    let mut s = base();
+    s.head.play = play;
+    s.window = window;
+    s
 }
 
 fn all_ready() -> Session {
@@ -292,11 +235,9 @@ fn all_ready() -> Session {
 // All of the ticks 5 to 68, so that the first of them stand in the last cells.
 fn turned() -> Session {
     let mut w = full_window();
-    w.ticks[0] = 64;
-    w.ticks[1] = 65;
-    w.ticks[2] = 66;
-    w.ticks[3] = 67;
-    w.ticks[4] = 68;
+    for cell in 0..5 {
+        w.ticks[cell] = 64 + cell as u64;
+    }
     over_window(at_ticks(5, 69), w)
 }
 
@@ -317,17 +258,7 @@ fn gap_at_once() -> Session {
 // The same at tick 11, behind ticks of which every seat is there, those that the circle does not have too.
 fn strangers_ahead() -> Session {
     let mut w = full_window();
-    w.present[0] = 255;
-    w.present[1] = 255;
-    w.present[2] = 255;
-    w.present[3] = 255;
-    w.present[4] = 255;
-    w.present[5] = 255;
-    w.present[6] = 255;
-    w.present[7] = 255;
-    w.present[8] = 255;
-    w.present[9] = 255;
-    w.present[10] = 255;
+    w.present[..11].fill(255);
     w.present[11] = 251;
     over_window(at_ticks(0, 0), w)
 }
@@ -356,65 +287,30 @@ fn at_the_end() -> Session {
 
 // Over, with a step out for another tick.
 fn ready_though_over() -> Session {
-    let play = Play {
-        step: Outstanding::Out {
-            tick: 77,
-            due: true,
-        },
-        ..at_ticks(0, 0)
-    };
-    let b = with(play, started());
-    let s = Session {
-        window: full_window(),
-        ..b
-    };
+    let mut s = with(step_out(at_ticks(0, 0), 77), started());
+    s.window = full_window();
     over(s, Outcome::Desynced { tick: 0 })
 }
 
 // Parameters that no open takes.
 fn ready_for_none() -> Session {
-    let b = too_many_seats();
-    Session {
-        window: full_window(),
-        ..b
-    }
+    let mut s = too_many_seats();
+    s.window = full_window();
+    s
 }
 
 // The script on a session of its own.
-fn run_on(to: Stdout, s: Session, script: &[u8], form: Form) {
-    let head = s.head;
-    let window = s.window;
-    let mut ring = window.ring;
-    let mut ticks = window.ticks;
-    let mut present = window.present;
-    let prints = s.prints;
-    let mut held = prints.held;
-    let mut printed = prints.ticks;
-    let mut states = prints.states;
-    let mut inputs = prints.inputs;
-    stream::run_bytes(
-        to,
-        head,
-        &mut ring,
-        &mut ticks,
-        &mut present,
-        &mut held,
-        &mut printed,
-        &mut states,
-        &mut inputs,
-        script,
-        form,
-    );
+fn run_on(to: Stdout, mut s: Session, script: &[u8], form: Form) {
+    stream::run_bytes(to, &mut s, script, form);
 }
 
 // From each of its records on.
+#[tactic(auto, using(script::proofs::Laws::size_is))]
 fn from_each(to: Stdout, s: Session, script: &[u8]) {
-    let mut at: usize = 0;
-    let mut size = script::record_size(script);
-    while size > 0 {
-        run_on(to, s, &script[at..], Form::Trace);
-        at += size;
-        size = script::record_size(&script[at..]);
+    let mut left = script;
+    while let Some(size) = script::record_size(left) {
+        run_on(to, s, left, Form::Trace);
+        left = &left[size..];
     }
 }
 
@@ -435,30 +331,30 @@ fn numbers(to: Stdout, s: Session) -> io::Result<()> {
     number(to, delivered.number())?;
     let advanced = s.advance().answer;
     number(to, advanced.number())?;
-    let committed = s.commit(0, WorldDigest::Absent).answer;
+    let committed = s.commit(0, None).answer;
     number(to, committed.number())?;
     let left = s.leave().answer;
     number(to, left.number())?;
     let pumped = pump::next_outbound(s).answer;
     number(to, pumped.number())?;
-    let sought = desync::desync_report(s).answer;
+    let sought = desync::desync_report(&s);
     number(to, sought.number())?;
-    let ready = shown::ready_ticks(s);
+    let ready = shown::ready_ticks(&s);
     number(to, ready.number())
 }
 
 // How many ticks are ready, of the session as it is and after each record of the script.
 fn ready_on(to: Stdout, s: Session, script: &[u8]) -> io::Result<()> {
-    let ready = shown::ready_ticks(s);
-    match ready {
-        Ready::Ticks(n) => println!(to; "ready {n}")?,
-        Ready::BadState => println!(to; "ready none")?,
+    match shown::ready_ticks(&s) {
+        Ok(n) => println!(to; "ready {n}")?,
+        Err(_) => println!(to; "ready none")?,
     }
     run_on(to, s, script, Form::Ready);
     Ok(())
 }
 
-// Standard input, as far as the buffer has room for it: how many bytes there are.
+// Standard input, as far as the buffer has room for it: how many bytes there are. Where a read begins is what those
+// before it brought, so no iterator goes over the buffer.
 fn read_script(mut from: Stdin, buffer: &mut [u8]) -> io::Result<usize>
     ensures { IfOk result (λ n. n ≤ length buffer.new) }
 {

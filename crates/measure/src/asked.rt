@@ -1,4 +1,4 @@
-// What is asked, in either way: which call comes next, and what it is given. The circle has two seats, of which this is
+// What is asked, of either host: which call comes next, and what it is given. The circle has two seats, of which this is
 // seat 0, four bytes a tick, and a digest every tick.
 ghost use Rattle.std.specs.Prelude.{◌≤◌};
 
@@ -8,41 +8,20 @@ use wire::{Body, DigestBody, HelloBody, InputsBody, Message};
 // This seat's press is the front of this, and so are the other's, of one tick or more.
 pub(crate) const PRESSES: [u8; 32] = *b"abcdabcdabcdabcdabcdabcdabcdabcd";
 
-pub(crate) fn call_at(calls: &[u8], at: usize) -> u8 {
-    if at < calls.len() {
-        return calls[at];
-    }
-    0
-}
-
-// Where the next call stands: behind the last one it is `again`.
-pub(crate) fn place_after(calls: &[u8], at: usize, again: usize) -> usize {
-    let last = calls.len();
-    if at < last {
-        let next = at + 1;
-        if next < last {
-            return next;
-        }
-    }
-    again
-}
-
-pub(crate) fn pair() -> SessionParams {
-    SessionParams {
-        count: 2,
-        local: 0,
-        width: 4,
-        delay: 0,
-        period: 1,
-        seed: 1,
-        content: 2,
-        rules: 3,
-        session: 9,
-    }
-}
+pub(crate) const PAIR: SessionParams = SessionParams {
+    count: 2,
+    local: 0,
+    width: 4,
+    delay: 0,
+    period: 1,
+    seed: 1,
+    content: 2,
+    rules: 3,
+    session: 9,
+};
 
 fn hello() -> Body {
-    let p = pair();
+    let p = PAIR;
     Body::Hello(HelloBody {
         agreement: p.agreement(),
         content: p.content,
@@ -57,15 +36,15 @@ fn hello() -> Body {
 
 fn inputs(first: u64, count: u8) -> Body {
     Body::Inputs(InputsBody {
-        first: first,
-        count: count,
+        first,
+        count,
         width: 4,
     })
 }
 
 fn digest(tick: u64) -> Body {
     Body::Digest(DigestBody {
-        tick: tick,
+        tick,
         state: 6,
         input: 7,
     })
@@ -95,19 +74,9 @@ pub(crate) fn size(call: u8) -> usize
     ensures { result ≤ 32 }
 {
     match call {
-        b's' => 4,
+        b's' | b'i' => 4,
         b'x' => 5,
-        b'i' => 4,
         b'e' => 32,
         _ => 0,
-    }
-}
-
-// The letter that stands for all of a call's.
-pub(crate) fn kind(call: u8) -> u8 {
-    match call {
-        b'x' => b's',
-        b'h' | b'i' | b'e' | b'f' => b'd',
-        _ => call,
     }
 }
