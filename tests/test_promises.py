@@ -3,6 +3,7 @@
 import contextlib
 import io
 import pathlib
+import re
 import tempfile
 import unittest
 from unittest import mock
@@ -19,6 +20,27 @@ GIVING = f"pub fn giving(x: u8) -> u8\n    {GIVES}\n{{\n    x\n}}\n\n"
 ASKING = f"pub fn asking(x: u8) -> u8\n    {ASKS}\n    {GIVES}\n{{\n    x\n}}\n\n"
 ONLY_ASKING = f"pub fn only_asking(x: u8) -> u8\n    {ASKS}\n{{\n    x\n}}\n\n"
 
+# A trait whose law says what is given, and what else a trait may hold; a type that has that law, and one that has none.
+TRAIT = f"""trait Giver {{
+    ghost of: {{ Self → ℕ }};
+    ghost past: {{ ℕ → ℕ }} = {{ λ n'. n' }};
+    const MOST: u8;
+
+    fn giving(self) -> u8
+        {GIVES};
+
+    fn bare(self) -> u8;
+
+    fn made(self) -> u8 {{
+        1
+    }}
+}}
+
+"""
+LAW = "ghost of = { λ _. 1 }"
+LAWFUL = f"impl Giver for Set {{\n    {LAW};\n\n    fn giving(self) -> u8 {{\n        1\n    }}\n}}\n\n"
+LAWLESS = "impl Giver for Bad {\n    fn giving(self) -> u8 {\n        1\n    }\n}\n\n"
+
 
 @contextlib.contextmanager
 def tree(files):
@@ -30,9 +52,10 @@ def tree(files):
         yield pathlib.Path(room)
 
 
-def contracts(text, file="src/lib.rt"):
-    """The clauses of each public function of a crate `box` that has one file."""
-    with tree({f"box/{file}": text}) as room:
+def contracts(text, file="src/lib.rt", **others):
+    """The clauses of each public function of a crate `box` that has one file, or others beside it."""
+    files = {file: text, **{f"src/{name}.rt": text for name, text in others.items()}}
+    with tree({f"box/{path}": text for path, text in files.items()}) as room:
         return {name: [clause.text for clause in f.clauses] for name, f in promises.public([room / "box"])}
 
 
@@ -163,6 +186,100 @@ class Heads(unittest.TestCase):
                 contracts(text)
 
 
+class Traits(unittest.TestCase):
+    """Which functions of traits and of their impls are public, and what their clauses are."""
+
+    def test_a_public_trait(self):
+        for head in "pub ", "#[tactic(none)]\npub ", "pub unsafe ":
+            self.assertEqual(contracts(head + TRAIT + GIVING), {
+                "box::Giver::giving": [GIVES], "box::Giver::bare": [], "box::Giver::made": [],
+                "box::giving": [GIVES]}, head)
+        self.assertEqual(list(contracts("pub " + TRAIT, "src/sets/small.rt"))[0], "box::sets::small::Giver::giving")
+        for more in "<'a, T>", ": Size<u8> + Drop", "<T> where T: Size":
+            text = "pub " + TRAIT.replace("Giver", "Giver" + more)
+            self.assertEqual(list(contracts(text))[0], "box::Giver::giving", more)
+
+    def test_a_trait_that_no_other_crate_can_call(self):
+        for reach in "", "pub(crate) ", "pub(super) ", "unsafe ":
+            self.assertEqual(contracts(reach + TRAIT + GIVING), {"box::giving": [GIVES]}, reach)
+
+    def test_an_impl_with_a_ghost_member(self):
+        self.assertEqual(contracts(LAWFUL + GIVING), {"box::SetGiver::giving": [LAW], "box::giving": [GIVES]})
+        self.assertEqual(contracts(LAWFUL, sets=LAWFUL), {
+            "box::SetGiver::giving": [LAW], "box::sets::SetGiver::giving": [LAW]})
+
+    def test_an_impl_with_none(self):
+        self.assertEqual(contracts(LAWLESS + GIVING), {"box::BadGiver::giving": [], "box::giving": [GIVES]})
+
+    def test_a_member_is_its_own_impl_s(self):
+        self.assertEqual(contracts(LAWFUL + LAWLESS + LAWFUL.replace("Set", "Pair") + BARE), {
+            "box::SetGiver::giving": [LAW], "box::BadGiver::giving": [], "box::PairGiver::giving": [LAW],
+            "box::bare": []})
+        self.assertEqual(contracts("pub " + TRAIT + LAWLESS)["box::BadGiver::giving"], [])
+
+    def test_members_above_and_below(self):
+        members = ["ghost next_gives = { λ s. s.0 }", "ghost remaining = { λ s. s.1 }", "ghost ends = { refl }"]
+        text = f"""unsafe impl<'a, I: Iterator> Iterator for Pass<'a, I> {{
+            ghost use Rattle.box.specs.Pass.{{◌//◌}};
+            type Item = I::Item;
+            {members[0]};
+            fn next(&mut self) -> Option<u8> {{
+                self.0.next()
+            }}
+            {members[1]};
+            fn len(&self) -> u64 {{
+                1
+            }}
+            {members[2]};
+        }}
+        """
+        self.assertEqual(contracts(text + GIVING), {
+            "box::PassIterator::next": members, "box::PassIterator::len": members, "box::giving": [GIVES]})
+
+    def test_what_a_member_holds(self):
+        for law in ("ghost of = { λ x'. g {n = 2} x' }", "ghost of = { λ _. 1 -- a } brace\n}",
+                    "ghost of = { {- } {- { -} -} codes \"}\" }", "ghost of = { λ x. ⟦<[u8; {4}] as Ord>⟧.cmp x x }",
+                    "ghost of =\n{\n    λ b' c'. '\n}"):
+            text = LAWFUL.replace(LAW, law.replace("\n", "\n    "))
+            self.assertEqual(contracts(text), {"box::SetGiver::giving": [law]})
+
+    def test_clauses_of_its_own_stand_for_the_trait_s(self):
+        for clauses in [GIVES], [ASKS, GIVES], [ASKS], ["ghost top: { ℕ }"]:
+            text = LAWFUL.replace("-> u8 {", "-> u8\n" + "\n".join(clauses) + "\n{")
+            text = text.replace("}\n}", "}\n    fn bare(self) {}\n}")
+            self.assertEqual(contracts(text), {"box::SetGiver::giving": clauses, "box::SetGiver::bare": [LAW]})
+
+    def test_an_impl_of_a_trait_that_the_crate_keeps(self):
+        for reach in "", "pub(crate) ", "pub(super) ":
+            kept = reach + TRAIT
+            for text in LAWFUL, LAWLESS, LAWFUL.replace("Giver", "crate::sets::Giver<u8>"):
+                self.assertEqual(contracts(kept + text + GIVING), {"box::giving": [GIVES]}, reach)
+                self.assertEqual(contracts(text + GIVING, sets=kept), {"box::giving": [GIVES]}, reach)
+                self.assertEqual(contracts(kept + GIVING, zeros=text), {"box::giving": [GIVES]}, reach)
+            # another trait's, and one of the same name that other crates can call
+            self.assertEqual(contracts(kept + LAWFUL.replace("Giver", "Taker")), {"box::SetTaker::giving": [LAW]})
+            self.assertEqual(contracts(kept + LAWFUL, sets="pub " + TRAIT)["box::SetGiver::giving"], [LAW])
+        self.assertEqual(contracts("pub " + TRAIT + LAWFUL)["box::SetGiver::giving"], [LAW])
+
+    def test_an_impl_in_a_program(self):
+        self.assertEqual(contracts(LAWFUL + LAWLESS + GIVING, "src/main.rt"), {"box::giving": [GIVES]})
+        self.assertEqual(contracts(GIVING, "src/main.rt", sets="pub " + TRAIT + LAWFUL), {
+            "box::giving": [GIVES], "box::sets::Giver::giving": [GIVES], "box::sets::Giver::bare": [],
+            "box::sets::Giver::made": []})
+
+    def test_what_has_no_function(self):
+        for text in ("impl<const N: usize> Model for Buffer<N> {\n    ghost Value = { List ℕ };\n}\n",
+                     "unsafe impl Send for Set {}\n", "pub trait Key {\n    ghost key: { ℕ };\n}\n",
+                     "#[derive(Clone, Copy, PartialEq)]\npub struct Set(u8);\n"):
+            self.assertEqual(contracts(text + GIVING), {"box::giving": [GIVES]}, text)
+
+    def test_a_text_that_ends_within_one(self):
+        for head in "impl Giver for Set {\n", "pub trait Giver {\n":
+            for begun in "", "ghost", "ghost of", "ghost of = { 1", "ghost of = { 1 }", "ghost of: { ℕ } =", "fn f()":
+                with self.assertRaisesRegex(ValueError, "box/src/lib.rt: line [12]: ", msg=begun):
+                    contracts(head + begun)
+
+
 PAGE = """# Promises
 
 - `box::none_of_these`: stands before the exceptions.
@@ -229,6 +346,33 @@ class Exceptions(unittest.TestCase):
         source = "pub fn f(x: u8) -> u8\n    ghost top: { ℕ }\n{\n    x\n}\n"
         self.fails("f has no `ensures`, and docs/PROMISES.md does not say why", source=source)
 
+    def test_a_function_of_a_trait(self):
+        said = "Giver::bare has no `ensures`, and docs/PROMISES.md does not say why"
+        more = "Giver::made has no `ensures`, and docs/PROMISES.md does not say why"
+        self.fails(said, more, source="pub " + TRAIT)
+        asks = "Giver::giving has a `requires`, and docs/PROMISES.md does not say why"
+        source = "pub " + TRAIT.replace(GIVES, f"{ASKS} {GIVES}")
+        self.fails(asks, source=source, nothing=["Giver::bare", "Giver::made"])
+        well = 0, "3 public functions, 3 exceptions, each explained\n", ""
+        given = {"asks": ["Giver::giving"], "nothing": ["Giver::bare", "Giver::made"]}
+        self.assertEqual(self.run_on(source, **given), well)
+
+    def test_a_function_of_an_impl(self):
+        self.assertEqual(self.run_on(LAWFUL), (0, "1 public functions, 0 exceptions, each explained\n", ""))
+        self.fails("BadGiver::giving has no `ensures`, and docs/PROMISES.md does not say why", source=LAWFUL + LAWLESS)
+        self.fails("SetGiver::giving is listed in docs/PROMISES.md as one that promises nothing, and it has an "
+                   "`ensures`", source=LAWFUL, nothing=["SetGiver::giving"])
+        for own in ASKS, "ghost top: { ℕ }":
+            source = LAWFUL.replace("-> u8", f"-> u8 {own}")
+            self.assertIn("SetGiver::giving has no `ensures`", self.run_on(source, asks=["SetGiver::giving"])[2], own)
+
+    def test_what_the_law_of_an_impl_asks(self):
+        asks = "SetGiver::giving has a `requires`, and docs/PROMISES.md does not say why"
+        nothing = "SetGiver::giving has no `ensures`, and docs/PROMISES.md does not say why"
+        can = "ghost can_give = { λ s. s.0 < 9 }"
+        self.fails(asks, nothing, source=LAWFUL.replace(LAW, can))
+        self.fails(asks, source=LAWFUL.replace(LAW, f"{can};\n    {LAW}"))
+
     def test_an_exception_that_nothing_needs(self):
         asks, nothing = ("giving is listed in docs/PROMISES.md as one that asks something, and it has no `requires`",
                          "giving is listed in docs/PROMISES.md as one that promises nothing, and it has an `ensures`")
@@ -258,18 +402,50 @@ class Exceptions(unittest.TestCase):
         given = self.run_on(f"{head}\n    {{\n        x\n    }}\n}}\n{BARE}{GIVING}", ["--list"], nothing=["bare"])
         self.assertEqual(given, (0, "\n".join(listing), ""))
 
+    def test_the_list_has_the_members_of_an_impl(self):
+        law = ["ghost of = {", "    λ _. 1", "}"]
+        listing = ["box::SetGiver::giving", *(f"    {line}" for line in law), ""]
+        given = self.run_on(LAWFUL.replace(LAW, "\n    ".join(law)), ["--list"])
+        self.assertEqual(given, (0, "\n".join(listing), ""))
+
     def test_wrong_usage(self):
         self.assertEqual(self.run_on(GIVING, ["--lists"])[0], 2)
 
 
 class Here(unittest.TestCase):
     def test_every_public_function_of_the_repository_is_found(self):
-        """Counted another way: by the lines that begin with `pub fn`, as the formatter leaves them."""
+        """Counted another way: by the lines that begin with `pub fn`, as the formatter leaves them, and with `fn` in a
+        trait's block."""
+        crates = list((promises.TOP / "crates").iterdir())
+        files = [path for crate in crates for path in crate.glob("src/**/*.rt")]
+        lines = [line for path in files for line in path.read_text().splitlines()]
+        found = promises.public(crates)
+        own = sum(line.lstrip().startswith("pub fn ") for line in lines)
+        of_traits = sum(map(self.of_traits, crates))
+        self.assertEqual(len(found), own + of_traits)
+        self.assertGreater(own, 100)
+        self.assertGreater(of_traits, 20)
+
+    def of_traits(self, crate):
+        """How many functions stand in a crate's public traits and, in a library, in its impls of traits: from the line
+        that opens a block to the next that closes one as far to the left. An impl of a trait that the crate keeps to
+        itself is none."""
+        texts, count = [path.read_text() for path in crate.glob("src/**/*.rt")], 0
+        kept = {name for text in texts for name in re.findall(r"^ *(?:pub\(\w+\) )?trait (\w+)", text, re.M)}
+        for text in texts:
+            heads = r"^( *)(?:pub trait |impl\b[^\n]*?(\w+)(?:<[^\n]*>)? for )[^\n]*\{\n(.*?)^\1\}"
+            for _, given, block in re.findall(heads, text, re.M | re.S):
+                if not given or (crate / "src" / "lib.rt").is_file() and given not in kept:
+                    count += len(re.findall("^ *fn ", block, re.M))
+        return count
+
+    def test_every_number_of_an_answer_is_found(self):
+        """By their lines: the rules' numbers are all functions of one trait."""
         crates = promises.TOP / "crates"
-        lines = [line for path in crates.glob("*/src/**/*.rt") for line in path.read_text().splitlines()]
-        found = promises.public(crates.iterdir())
-        self.assertEqual(len(found), sum(line.lstrip().startswith("pub fn ") for line in lines))
-        self.assertGreater(len(found), 100)
+        names = [name for name, _ in promises.public(crates.iterdir()) if name.endswith("::number")]
+        texts = [path.read_text() for path in crates.glob("*/src/**/*.rt")]
+        self.assertEqual(len(names), sum(text.count("    fn number(self) -> u8") for text in texts))
+        self.assertGreater(len(names), 15)
 
 
 if __name__ == "__main__":

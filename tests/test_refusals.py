@@ -185,6 +185,15 @@ class Refusals(unittest.TestCase):
             owners = [refusals.owner(self.crate, f"src/{file}.rt", line) for line in lines]
             self.assertEqual(owners, [name and module + name for name in OWNERS])
 
+    def test_whose_line_it_is_in_a_trait(self):
+        blocks = "pub trait Of", "trait Of: Size", "impl Of for Set", "impl Of<sets::Bad> for Set", "impl Of for ()"
+        names = "Of", "Of", "SetOf", "SetOfBad", "UnitOf"
+        for block, name in zip(blocks, names):
+            text = f"{block} {{\n    ghost of = {{ λ x'. x' }};\n\n    fn of(self) -> u8 {{\n        1\n    }}\n}}\n"
+            (self.crate / "src" / "lib.rt").write_text(text)
+            owners = [refusals.owner(self.crate, "src/lib.rt", line) for line in range(1, 8)]
+            self.assertEqual(owners, [None] * 3 + [f"{name}::of"] * 3 + [None], block)
+
     def test_a_text_in_another_function_than_it_says(self):
         texts = ("Set::add", "        self\n"), ("take", "    n\n"), ("one", "{ 1 }"), ("Reader::rest", "b'}'")
         for where, old in texts:

@@ -4,6 +4,7 @@ No line says where a head ends: its `{` stands on a line of its own or at the en
 contract hold braces too, and so do comments and texts. So the text is read token by token.
 """
 
+import dataclasses
 import pathlib
 import re
 from typing import NamedTuple
@@ -19,16 +20,27 @@ CLAUSES = ("ensures", "requires", "ghost")
 
 
 class Clause(NamedTuple):
-    kind: str
+    kind: str       # of an impl's ghost member `requires` or `ensures`: what the trait's own clauses say by it
     text: str       # from its word to its last brace; its later lines keep their place below the first
+
+
+@dataclasses.dataclass
+class Block:
+    """What functions stand in."""
+    scope: str              # what their names stand under
+    trait: str = None       # the trait that it declares, or that it gives to a type; without its path
+    given: bool = False     # the latter, an `impl TRAIT for TYPE`
+    public: bool = False    # a `pub trait`
+    members: list = dataclasses.field(default_factory=list)     # its ghost members, as clauses
 
 
 class Function(NamedTuple):
     name: str       # below its crate, as Session::commit or answers::changed
-    public: bool    # `pub` and not `pub(crate)`, which no other crate can call
-    clauses: list
+    public: bool    # it or its trait is `pub`, and not `pub(crate)`, which no other crate can call; see of_crate too
+    clauses: list   # its own; if an impl's of a trait has none, the impl's ghost members
     first: int      # the lines that it stands on, with its attributes
     last: int
+    block: Block
 
     def has(self, kind):
         return any(clause.kind == kind for clause in self.clauses)
@@ -44,9 +56,16 @@ def of_file(crate, file):
 
 
 def of_crate(crate):
-    """The functions of all files of a crate."""
-    files = sorted(path.relative_to(crate) for path in pathlib.Path(crate).glob("src/**/*.rt"))
-    return [function for file in files for function in of_file(crate, file)]
+    """The functions of all files of a crate. Public are also those of a library's impls of traits, which other crates
+    call by the trait, but where the crate keeps that to itself: it has a trait of that name, which is not `pub`."""
+    crate = pathlib.Path(crate)
+    files = sorted(path.relative_to(crate) for path in crate.glob("src/**/*.rt"))
+    found = [function for file in files for function in of_file(crate, file)]
+    if not (crate / "src" / "lib.rt").is_file():
+        return found
+    own = [f.block for f in found if f.block.trait and not f.block.given]
+    kept = {block.trait for block in own} - {block.trait for block in own if block.public}
+    return [f._replace(public=f.public or f.block.given and f.block.trait not in kept) for f in found]
 
 
 def module_of(file):
@@ -57,7 +76,7 @@ def module_of(file):
 
 def functions(text, module=""):
     """The functions of a text in its order, those within another's body left out."""
-    reader, scopes, found = Reader(text), [module], []
+    reader, blocks, found = Reader(text), [Block(module)], []
     item, first = [], None
     while token := reader.take():
         if first is None:
@@ -66,26 +85,29 @@ def functions(text, module=""):
             reader.pass_over("[", "]")
             continue
         item.append(token)
+        block = blocks[-1]
         if token == "fn":
-            name = reader.take()
+            name = "".join(around.scope for around in blocks) + reader.take()
             clauses = reader.contract()
-            found.append(Function("".join(scopes) + name, is_public(item), clauses, first, reader.line()))
+            if block.given and not clauses:
+                clauses = block.members     # some may stand further down: they come into this list
+            found.append(Function(name, block.public or is_public(item), clauses, first, reader.line(), block))
         elif token == "{":
-            scope = scope_of(item)
-            if scope is None:
+            opened = block_of(item)
+            if opened is None:
                 reader.pass_over("{", "}", 1)
             else:
-                scopes.append(scope)
+                blocks.append(opened)
         elif token == "}":
-            if len(scopes) == 1:
+            if len(blocks) == 1:
                 raise ValueError(f"line {reader.line()}: a }} closes nothing")
-            scopes.pop()
-        elif item == ["ghost", "use"]:
-            reader.to_semicolon()
+            blocks.pop()
+        elif item == ["ghost"]:
+            block.members += reader.ghost()
         elif token != ";":
             continue
         item, first = [], None
-    if len(scopes) > 1:
+    if len(blocks) > 1:
         raise ValueError(f"line {reader.line()}: the text ends before what it opens")
     return found
 
@@ -94,25 +116,30 @@ def is_public(item):
     return item[0] == "pub" and item[1] != "("
 
 
-def scope_of(item):
-    """What the names in a block stand under, by the tokens up to its `{`; None for a block that holds no items."""
+def block_of(item):
+    """A block, by the tokens up to its `{`; None for one that holds no items."""
     words = item[:]
     if words[0] == "pub":
         words = words[words.index(")") + 1:] if words[1] == "(" else words[1:]
+    if words[0] == "unsafe":
+        words = words[1:]
     if words[0] == "mod":
-        return words[1] + "::"
+        return Block(words[1] + "::")
     if words[0] == "extern":
-        return ""
+        return Block("")
+    if words[0] == "trait":
+        return Block(words[1] + "::", words[1], public=is_public(item))
     if words[0] == "impl":
         path = without_arguments(words[1:-1])
         if "for" not in path:
-            return path[-1] + "::"
+            return Block(path[-1] + "::")
         # the type and then the trait with its arguments, in one word, as the checker names the proofs of an
         # `impl Tr<A> for X`
         at = path.index("for")
         subject = "Unit" if path[at + 1] == "(" else path[-1]
         given = arguments(words[:words.index("for")])
-        return "".join(word[0].upper() + word[1:] for word in (subject, path[at - 1], *given)) + "::"
+        scope = "".join(word[0].upper() + word[1:] for word in (subject, path[at - 1], *given)) + "::"
+        return Block(scope, path[at - 1], given=True)
     return None
 
 
@@ -172,9 +199,20 @@ class Reader:
             depth += 1 if found[0] == opens else -1
             self.at = found.end()
 
-    def to_semicolon(self):
-        """To behind the tree of a `ghost use`, which is antt's too."""
-        self.at = self.text.index(";", self.at) + 1
+    def ghost(self):
+        """A ghost member, of which the word `ghost` is read, to behind its `;`: a list with its clause. It is empty for
+        a `ghost use`, whose tree is antt's too."""
+        start = self.at
+        name = self.take()
+        if name == "use":
+            self.at = self.text.index(";", self.at) + 1
+            return []
+        self.at = start
+        member = self.clause("ghost")
+        while self.take() != ";":
+            self.clause("=")    # a trait's default
+        # std names what its traits require so, as `can_add` of `Add`
+        return [member._replace(kind="requires" if name.startswith("can_") else "ensures")]
 
     def contract(self):
         """The clauses of a head, of which the name is read, to behind the function's body or the `;` in its place."""
