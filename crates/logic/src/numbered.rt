@@ -1,7 +1,7 @@
 // Document 01's number of an answer: 0 is done or accepted, and each refusal has a number of its own.
 
 ghost use Rattle.std.specs.Prelude.{◌≡◌, ℕ};
-ghost use Rattle.logic.specs.Numbered.{result_no};
+ghost use Rattle.logic.specs.Numbered.{done_no, result_no};
 
 const DONE: u8 = 0;
 
@@ -14,7 +14,7 @@ pub trait Numbered {
 
 // Done or accepted.
 impl Numbered for () {
-    ghost number_of = { λ _. 0 };
+    ghost number_of = { done_no };
 
     fn number(self) -> u8 {
         DONE
@@ -23,7 +23,7 @@ impl Numbered for () {
 
 // Done, with what it gives.
 impl Numbered for u64 {
-    ghost number_of = { λ _. 0 };
+    ghost number_of = { done_no };
 
     fn number(self) -> u8 {
         DONE
@@ -31,7 +31,7 @@ impl Numbered for u64 {
 }
 
 impl Numbered for usize {
-    ghost number_of = { λ _. 0 };
+    ghost number_of = { done_no };
 
     fn number(self) -> u8 {
         DONE

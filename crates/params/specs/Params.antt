@@ -3,7 +3,7 @@
 use Rattle.std.specs.Prelude.{ℕ, Bool, not, List, ◌++◌, eqb, ltb, Result, Ok, Err}
 use Rattle.logic.specs.Test.{when◌then◌else◌}
 use Rattle.logic.specs.Range.{outside}
-use Rattle.logic.specs.Numbered.{result_no}
+use Rattle.logic.specs.Numbered.{done_no, result_no}
 use Rattle.hash.specs.Fnv.{start, fnv, le_bytes}
 use Rattle.peer.specs.Seats.{seats, first_seats, removing}
 use Rattle.peer.specs.Cells.{window}
@@ -24,6 +24,11 @@ max_width = 16
 -- the longest delay: one below the window
 abbrev pub max_delay : ℕ
 max_delay = 63
+
+-- parameters that no open takes
+abbrev pub zero_params : SessionParams
+zero_params =
+    record { count = 0; local = 0; width = 0; delay = 0; period = 0; seed = 0; content = 0; rules = 0; session = 0 }
 
 -- ---- 11 to 16
 
@@ -50,11 +55,14 @@ error_no SessionZero = 16
 
 -- the number of each answer: 0 of parameters that pass
 abbrev pub validity_no : Result (Unit {0}) ParamsError → ℕ
-validity_no = result_no (λ _. 0) error_no
+validity_no = result_no done_no error_no
 
 -- 20: the record's parameters fail 11 to 16
 unfoldable pub bad_state : SessionParams → Bool
 bad_state p = not (eqb (validity_no (validity p)) 0)
+
+abbrev pub bad_state_no : BadState → ℕ
+bad_state_no bad = 20
 
 -- what a session call over them is refused with
 unfoldable pub check_of : SessionParams → Result (Unit {0}) BadState

@@ -2,7 +2,8 @@
 #![tactic(auto)]
 
 ghost use Rattle.std.specs.Prelude.{◌≡◌};
-ghost use Rattle.params.specs.Params.{validity, error_no, bad_state, check_of, agreement_of, roster_of, remotes_of};
+ghost use Rattle.params.specs.Params.{validity, error_no, bad_state, bad_state_no, check_of};
+ghost use Rattle.params.specs.Params.{agreement_of, roster_of, remotes_of};
 
 use hash::StateHash;
 use logic::{Numbered, is_outside};
@@ -66,7 +67,7 @@ impl Numbered for ParamsError {
 pub struct BadState;
 
 impl Numbered for BadState {
-    ghost number_of = { λ _. 20 };
+    ghost number_of = { bad_state_no };
 
     fn number(self) -> u8 {
         20

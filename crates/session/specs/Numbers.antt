@@ -1,7 +1,8 @@
 -- Document 01, "Numbers given back": what each call answers, and the number of each answer.
 -- Assumes nothing.
 use Rattle.std.specs.Prelude.{ℕ, Result}
-use Rattle.logic.specs.Numbered.{result_no}
+use Rattle.logic.specs.Numbered.{done_no, result_no}
+use Rattle.params.specs.Params.{bad_state_no}
 use Rattle.params.specs.declared.BadState.{BadState}
 use Rattle.session.specs.declared.Outcome.{Outcome}
 use Rattle.session.specs.declared.SubmitError.{SubmitError}
@@ -33,10 +34,10 @@ submit_error_no (Submit'.WrongWidth saw agreed) = 41
 submit_error_no (Submit'.WindowFull tick pending) = 42
 
 abbrev pub submit_no : Submit → ℕ
-submit_no = result_no (λ _. 0) submit_error_no
+submit_no = result_no done_no submit_error_no
 
 abbrev pub leave_no : Leave → ℕ
-leave_no = result_no outcome_no (λ _. 20)
+leave_no = result_no outcome_no bad_state_no
 
 abbrev pub commit_error_no : CommitError → ℕ
 commit_error_no Commit'.BadState = 20
@@ -44,7 +45,7 @@ commit_error_no (Commit'.OutOfOrder saw expected) = 51
 commit_error_no (Commit'.DigestMismatch tick owed) = 52
 
 abbrev pub commit_no : Commit → ℕ
-commit_no = result_no (λ _. 0) commit_error_no
+commit_no = result_no done_no commit_error_no
 
 -- to wait or to stall is no refusal
 abbrev pub advance_no : Advance → ℕ

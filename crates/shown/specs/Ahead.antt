@@ -3,10 +3,11 @@
 -- Assumes nothing.
 use Rattle.std.specs.Prelude.{ℕ, suc, ◌+◌, Bool, true, false, ◌&&◌, List, [], ◌∷◌, Result, Ok, Err, leb}
 use Rattle.logic.specs.Test.{when◌then◌else◌}
+use Rattle.logic.specs.Numbered.{done_no, result_no}
 use Rattle.logic.specs.Saturating.{most}
 use Rattle.logic.specs.Tabulate.{tabulate}
 use Rattle.peer.specs.Cells.{window}
-use Rattle.params.specs.Params.{bad_state}
+use Rattle.params.specs.Params.{bad_state, bad_state_no}
 use Rattle.params.specs.declared.BadState.{BadState}
 use Rattle.window.specs.Window.{held_by}
 use Rattle.window.specs.declared.Window.{Window}
@@ -37,5 +38,4 @@ unfoldable pub ready_ticks : Session → Result ℕ BadState
 ready_ticks s = when bad_state s.head.params then Err (record {}) else Ok (ahead s.head s.window)
 
 abbrev pub ready_no : Result ℕ BadState → ℕ
-ready_no (Ok n) = 0
-ready_no (Err bad) = 20
+ready_no = result_no done_no bad_state_no

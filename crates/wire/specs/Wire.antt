@@ -4,7 +4,7 @@ use Rattle.std.specs.Prelude.{ℕ, ◌+◌, ◌*◌, not, List, eqb, ltb, length
 use Rattle.logic.specs.Test.{when◌then◌else◌}
 use Rattle.logic.specs.Range.{outside}
 use Rattle.logic.specs.Saturating.{most}
-use Rattle.logic.specs.Numbered.{result_no}
+use Rattle.logic.specs.Numbered.{done_no, result_no}
 use Rattle.peer.specs.Seats.{seats}
 use Rattle.peer.specs.Cells.{window}
 use Rattle.params.specs.Params.{min_peers, max_width, max_delay}
@@ -37,7 +37,7 @@ reason_no (UnknownKind saw) = 10
 
 -- the reason's number, and 0 of a good form
 abbrev pub form_no : Result (Unit {0}) WireError → ℕ
-form_no = result_no (λ _. 0) reason_no
+form_no = result_no done_no reason_no
 
 -- Hello and Inputs: 4 width
 unfoldable pub width_form : ℕ → Result (Unit {0}) WireError
