@@ -80,6 +80,16 @@ impl Fingerprints {
         }
     }
 
+    // As new ones, in the place where they stand.
+    pub fn clear(&mut self)
+        ensures { self.new ≡ no_prints }
+    {
+        self.held = [false; CELLS];
+        self.ticks = [0; CELLS];
+        self.states = [0; CELLS];
+        self.inputs = [0; CELLS];
+    }
+
     // ---- one cell of the four lists. Past the end nothing is found, and nothing is stored
 
     fn cell_at(&self, cell: usize) -> Option<Fingerprint>

@@ -1,7 +1,6 @@
 // The two hosts that are measured. Both keep one session: one lends it to each call, as a player would, and the other
 // hands it over by value and puts back what each call gives. A report is asked for in one way alone, and changes
 // nothing.
-use crate::asked;
 use deliver::Delivery;
 use params::{BadState, ParamsError, SessionParams};
 use pump::{Outbound, Run};
@@ -10,7 +9,7 @@ use session::{Advance, CommitError, Outcome, Session, SubmitError};
 use wire::Message;
 
 pub(crate) trait Host {
-    // Over an open session.
+    // Before the first open.
     fn new() -> Self;
 
     fn session(&self) -> &Session;
@@ -35,7 +34,7 @@ pub(crate) struct InPlace(Session);
 
 impl Host for InPlace {
     fn new() -> InPlace {
-        InPlace(Session::open(asked::PAIR).session)
+        InPlace(Session::unopened())
     }
 
     fn session(&self) -> &Session {
@@ -76,7 +75,7 @@ pub(crate) struct ByValue(Session);
 
 impl Host for ByValue {
     fn new() -> ByValue {
-        ByValue(Session::open(asked::PAIR).session)
+        ByValue(Session::unopened())
     }
 
     fn session(&self) -> &Session {

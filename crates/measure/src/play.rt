@@ -82,6 +82,7 @@ fn make<H: Host>(host: &mut H, call: u8, line: &mut Text, lined: bool) -> u64 {
 pub(crate) fn play<H: Host + Drop>(calls: &[u8], turns: u64, lined: bool) -> u64 {
     let again = crate::behind(calls, b'*');
     let mut host = H::new();
+    let _opened = host.open(asked::PAIR);
     let mut line = Text::new();
     let mut report = [0u8; text::LIMIT];
     let mut written: usize = 0;

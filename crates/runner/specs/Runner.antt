@@ -3,7 +3,7 @@
 use Rattle.std.specs.Prelude.{ℕ, ◌≤◌, ◌≡◌, Bool, true, false, List, [], ◌++◌, eqb, length}
 use Rattle.text.specs.Text.{text_limit}
 use Rattle.logic.specs.Test.{when◌then◌else◌}
-use Rattle.params.specs.Params.{validity, bad_state}
+use Rattle.params.specs.Params.{zero_params, validity, bad_state}
 use Rattle.params.specs.declared.SessionParams.{SessionParams}
 use Rattle.session.specs.Session.{fresh, is_playing}
 use Rattle.session.specs.Host.{submit, leave}
@@ -33,8 +33,7 @@ pub record Runs (session : Session) (line : List ℕ) (after : Session) (text : 
 
 -- before a good open stands what no open takes
 unfoldable pub no_params : SessionParams
-no_params =
-    record { count = 0; local = 0; width = 0; delay = 0; period = 0; seed = 0; content = 0; rules = 0; session = 0 }
+no_params = zero_params
 
 -- a later good open replaces the session, a refused one leaves it
 unfoldable pub run_open : Session → SessionParams → Session

@@ -52,7 +52,7 @@ fn run_open(s: &mut Session, out: &mut Text, params: SessionParams)
 {
     lines::open_line(out, params.validate());
     if !params.bad_state() {
-        *s = Session::open(params).session;
+        let _opened = s.open_in(params);
     }
 }
 

@@ -1,13 +1,14 @@
 -- Document 01, what the host calls: open, submit and leave. 20 comes first, and then, in submit, a standing outcome.
 -- Assumes nothing.
-use Rattle.std.specs.Prelude.{ℕ, ◌-◌, not, List, Option, None, Some, Result, Ok, Err, eqb, leb, length}
+use Rattle.std.specs.Prelude.{ℕ, ◌-◌, not, List, Option, None, Some, Result, Ok, Err, eqb, leb, length, replicate}
 use Rattle.logic.specs.Test.{when◌then◌else◌}
 use Rattle.logic.specs.Saturating.{raised}
 use Rattle.peer.specs.Cells.{window}
-use Rattle.params.specs.Params.{validity, bad_state}
+use Rattle.params.specs.Params.{zero_params, validity, bad_state}
 use Rattle.params.specs.declared.SessionParams.{SessionParams}
 use Rattle.params.specs.declared.ParamsError.{ParamsError}
-use Rattle.window.specs.Window.{write_frame}
+use Rattle.window.specs.Window.{ring_bytes, window_of, write_frame}
+use Rattle.fingerprint.specs.Cells.{no_prints}
 use Rattle.session.specs.declared.Outcome.{Outcome}
 use Rattle.session.specs.declared.Outcome.TheVariants.{LeftLocally}
 use Rattle.session.specs.declared.Emit.TheVariants.{Bye}
@@ -15,13 +16,20 @@ use Rattle.session.specs.declared.Head.{Head}
 use Rattle.session.specs.declared.Session.{Session}
 use Rattle.session.specs.declared.SubmitError.TheVariants as Submit'
 use Rattle.session.specs.declared.Answered.{Answered}
-use Rattle.session.specs.Session.{session_of, with_head, HeadAnswered, head_with, session_with, fresh, with_play}
+use Rattle.session.specs.Session.{session_of, with_head, HeadAnswered, head_with, session_with, fresh_head, fresh, with_play}
 use Rattle.session.specs.Session.{with_outcome, with_pass, started, last_committed}
 use Rattle.session.specs.Numbers.{Submit, submit_no, Leave}
 
 -- a refused open hands back the fresh record over the given parameters, on which every call answers 20
 unfoldable pub opened : SessionParams → Answered (Result (Unit {0}) ParamsError)
 opened p = session_with (fresh p) (validity p)
+
+-- room for a session before its first open: parameters that no open takes, so that every call answers 20, and nothing
+-- held
+unfoldable pub unopened : Session
+unopened =
+    session_of (fresh_head zero_params)
+    (window_of (replicate ring_bytes 0) (replicate window 0) (replicate window 0)) no_prints
 
 -- ---- submit: the head says whether the press is taken, and the window takes it
 

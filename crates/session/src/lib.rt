@@ -7,7 +7,7 @@ ghost use Rattle.std.specs.Prelude.{◌≡◌, false};
 ghost use Rattle.params.specs.Params.{bad_state};
 ghost use Rattle.window.specs.Window.{held_by};
 ghost use Rattle.session.specs.Session.{head_with, session_with, fresh_head, every_seat, over, starts, started};
-ghost use Rattle.session.specs.Host.{opened, submit_head, submit, leave_head, leave};
+ghost use Rattle.session.specs.Host.{opened, unopened, submit_head, submit, leave_head, leave};
 ghost use Rattle.session.specs.Step.{beside, idle, step_rows, take_step, stall, drain, play_on, advanced_with, advance};
 ghost use Rattle.session.specs.Step.{advance_head, mismatch, keep_digest, commit};
 ghost use Rattle.session.specs.Numbers.{outcome_no, submit_error_no, advance_no, commit_error_no};
@@ -413,14 +413,30 @@ fn mismatches(digest: Option<u64>, due: bool) -> bool
 }
 
 impl Session {
+    // Room for a session, for `open_in`: before that every call on it is refused with 20. All of its arrays are zeros,
+    // which a host has where it keeps a session and nowhere else; those of `open` are made apart and copied.
+    pub fn unopened() -> Session
+        ensures { result ≡ unopened }
+    {
+        Session {
+            head: Head::new(SessionParams::default()),
+            window: Window {
+                ring: [0u8; window::RING],
+                ticks: [0; window::SLOTS],
+                present: [0; window::SLOTS],
+            },
+            prints: Fingerprints::new(),
+        }
+    }
+
     // A session that has not started. Where the parameters fail a check it is there all the same, and every call on it
     // is refused with 20.
     pub fn open_in(&mut self, params: SessionParams) -> Result<(), ParamsError>
         ensures { session_with self.new result ≡ opened params }
     {
         self.head = Head::new(params);
-        self.window = Window::new();
-        self.prints = Fingerprints::new();
+        self.window.clear();
+        self.prints.clear();
         params.validate()
     }
 

@@ -52,6 +52,15 @@ impl Window {
         }
     }
 
+    // As a new one, in the place where it stands: a window is too large for a copy on a player's stack.
+    pub fn clear(&mut self)
+        ensures { self.new ≡ fresh_window }
+    {
+        self.ring = [0u8; RING];
+        self.ticks = [logic::MOST; SLOTS];
+        self.present = [0; SLOTS];
+    }
+
     // The seats whose frame for the tick is held: none where the cell stands at another tick.
     pub fn held_by(&self, tick: u64) -> PeerSet
         ensures { result.0 ≡ held_by self.now tick }
