@@ -22,10 +22,10 @@ pub const OUT: usize = 16384;
 
 const LONGEST: usize = script::LONGEST;
 
-// A script that is being read: the session that stands, and the bytes of the record that has begun, which is not whole.
+// Of a script that is being read, the bytes of the record that has begun, which is not whole. The session that stands is
+// lent, so that it is never copied.
 #[derive(Drop)]
 struct Reader {
-    session: Session,
     begun: Buffer<LONGEST>,
     ghost part: { record_size begun ≡ None },
 }
@@ -37,32 +37,30 @@ fn say(to: Stdout, bytes: &[u8]) -> bool {
 
 impl Reader {
     // Nothing has begun.
-    fn new(session: Session) -> Reader
-        ensures session { result.session ≡ session }
-        ensures begun { result.begun ≡ [] }
+    fn new() -> Reader
+        ensures { result.begun ≡ [] }
     {
         Reader {
-            session,
             begun: Buffer::new(),
         }
     }
 
     // One record more, or some bytes of one: how many bytes of the piece are used. The text is the record's lines after.
-    fn feed_one(&mut self, line: &mut Text, piece: &[u8], form: Form) -> usize
-        ensures feeds { Feeds form (reading_of self.old.session self.old.begun []) piece.now result
-            (reading_of self.new.session self.new.begun line.new) }
+    fn feed_one(&mut self, s: &mut Session, line: &mut Text, piece: &[u8], form: Form) -> usize
+        ensures feeds { Feeds form (reading_of s.old self.old.begun []) piece.now result
+            (reading_of s.new self.new.begun line.new) }
         ensures within_limit { length line.new ≤ text_limit }
     {
         if self.begun.len() == 0 {
             if let Some(size) = script::record_size(piece) {
-                runner::run_record(&mut self.session, line, &piece[..size], form);
+                runner::run_record(s, line, &piece[..size], form);
                 return size;
             }
         }
         let used = script::record_lacks(self.begun.as_bytes()).min(piece.len());
         self.begun.piece(&piece[..used]);
         if script::record_size(self.begun.as_bytes()).is_some() {
-            runner::run_record(&mut self.session, line, self.begun.as_bytes(), form);
+            runner::run_record(s, line, self.begun.as_bytes(), form);
             self.begun.clear();
         } else {
             line.clear();
@@ -70,30 +68,46 @@ impl Reader {
         used
     }
 
-    // As much of a piece as there is room for the lines of, in `out`.
-    fn feed(&mut self, out: &mut Buffer<OUT>, piece: &[u8], form: Form) -> usize
-        ensures { Feeds form (reading_of self.old.session self.old.begun []) piece.now result
-            (reading_of self.new.session self.new.begun out.new) }
+    // As much of a piece as there is room for the lines of, in `out`; each record's go through `line`.
+    fn feed(
+        &mut self,
+        s: &mut Session,
+        line: &mut Text,
+        out: &mut Buffer<OUT>,
+        piece: &[u8],
+        form: Form,
+    ) -> usize
+        ensures { Feeds form (reading_of s.old self.old.begun []) piece.now result
+            (reading_of s.new self.new.begun out.new) }
     {
-        let mut line = Text::new();
         out.clear();
+        // where a record begins is what those before it used, so no iterator goes over the piece
         let mut used = 0;
         while used < piece.len() && text::LIMIT <= OUT - out.len() {
-            used += self.feed_one(&mut line, &piece[used..], form);
+            used += self.feed_one(s, line, &piece[used..], form);
             out.piece(line.as_bytes());
         }
         used
     }
 
-    // A whole piece, its lines written. It says whether that could be done.
-    fn run_piece(&mut self, to: Stdout, piece: &[u8], form: Form) -> bool
-        ensures { result ≡ true → Reads form (reading_of self.old.session self.old.begun []) piece.now
-            self.new.session self.new.begun }
+    // A whole piece, its lines written. It says whether that could be done. The room for lines is lent: pieces may be
+    // bytes, and new room for each would take longer than they do.
+    fn run_piece(
+        &mut self,
+        to: Stdout,
+        s: &mut Session,
+        line: &mut Text,
+        out: &mut Buffer<OUT>,
+        piece: &[u8],
+        form: Form,
+    ) -> bool
+        ensures { result ≡ true → Reads form (reading_of s.old self.old.begun []) piece.now s.new
+            self.new.begun }
     {
-        let mut out = Buffer::<OUT>::new();
+        // as in `feed`
         let mut used = 0;
         while used < piece.len() {
-            used += self.feed(&mut out, &piece[used..], form);
+            used += self.feed(s, line, out, &piece[used..], form);
             if !say(to, out.as_bytes()) {
                 return false;
             }
@@ -108,10 +122,10 @@ pub fn run_bytes(to: Stdout, s: &mut Session, bytes: &[u8], form: Form) -> Optio
     ensures session { IfSome result (λ have. (reading form (from s.old) bytes.now).session ≡ s.new) }
     ensures have { IfSome result (λ have. length (reading form (from s.old) bytes.now).begun ≡ have) }
 {
-    let mut reader = Reader::new(*s);
-    let going = reader.run_piece(to, bytes, form);
-    *s = reader.session;
-    if going {
+    let mut reader = Reader::new();
+    let mut line = Text::new();
+    let mut out = Buffer::new();
+    if reader.run_piece(to, s, &mut line, &mut out, bytes, form) {
         Some(reader.begun.len())
     } else {
         None
@@ -127,15 +141,17 @@ fn read_piece(mut from: Stdin, piece: &mut [u8]) -> usize
 
 // A proved loop has to end, and nothing says that the input does: the turns are more than any run uses up.
 pub fn run(from: Stdin, to: Stdout, form: Form) {
-    let mut reader = Reader::new(runner::start());
+    let mut s = runner::start();
+    let mut reader = Reader::new();
+    let mut line = Text::new();
+    let mut out = Buffer::new();
     let mut piece = [0u8; PIECE];
     for _ in 0..u64::MAX {
         let n = read_piece(from, &mut piece);
-        if n == 0 || !reader.run_piece(to, &piece[..n], form) {
+        if n == 0 || !reader.run_piece(to, &mut s, &mut line, &mut out, &piece[..n], form) {
             break;
         }
     }
-    let mut line = Text::new();
-    runner::end_lines(&reader.session, &mut line, reader.begun.len(), form);
+    runner::end_lines(&s, &mut line, reader.begun.len(), form);
     say(to, line.as_bytes());
 }

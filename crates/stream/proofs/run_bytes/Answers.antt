@@ -3,17 +3,17 @@ use Rattle.std.proofs.Common.{[], length, ap, sym, ◌∙◌}
 use Rattle.runner.specs.Script.{from}
 use Rattle.stream.specs.Stream.{reading_of, Reads}
 use Rattle.stream.proofs.run_bytes.Goals as goal
-use Rattle.stream.proofs.run_bytes.Goals.{Then-going}
+use Rattle.stream.proofs.run_bytes.Goals.{Then-run_piece}
 
-ran : (c : Then-going) → Reads c.args.form (reading_of c.args.s.now [] []) c.args.bytes.now
-    c.run_piece-going.new.self.session c.run_piece-going.new.self.begun
-ran c = rw (c.new-reader.ensures.session, c.new-reader.ensures.begun) at (c.run_piece-going.ensures c.if-going.true)
+ran : (c : Then-run_piece) → Reads c.args.form (reading_of c.args.s.now [] []) c.args.bytes.now c.run_piece.new.s
+    c.run_piece.new.self.begun
+ran c = rw c.new-reader.ensures at (c.run_piece.ensures c.if-run_piece.true)
 
-pub returns-then-going-clause-session : goal.returns-then-going-clause-session
+pub returns-then-run_piece-clause-session : goal.returns-then-run_piece-clause-session
 unfolding from
-returns-then-going-clause-session c = (ran (goal.at.returns-then-going-clause-session c).Then-going).next
+returns-then-run_piece-clause-session c = (ran (goal.at.returns-then-run_piece-clause-session c).Then-run_piece).next
 
-pub returns-then-going-clause-have : goal.returns-then-going-clause-have
+pub returns-then-run_piece-clause-have : goal.returns-then-run_piece-clause-have
 unfolding from
-returns-then-going-clause-have c =
-    ap length (ran (goal.at.returns-then-going-clause-have c).Then-going).rest ∙ sym c.len.ensures.length
+returns-then-run_piece-clause-have c =
+    ap length (ran (goal.at.returns-then-run_piece-clause-have c).Then-run_piece).rest ∙ sym c.len.ensures.length

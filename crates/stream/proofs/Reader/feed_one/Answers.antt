@@ -37,8 +37,8 @@ returns-in-Some-clause-feeds c =
     (feeds_whole a.form _ _ a.piece.now _ _ none_begun (gathers_here a.piece.now _ size) _
     (whole_here a.piece.now _ size) c.run_record.ensures)
 
-pub invariant_of-self-then-is_some : goal.invariant_of-self-then-is_some
-invariant_of-self-then-is_some c = record { part = rw c.clear.ensures none_begun }
+pub invariant_of-self : goal.invariant_of-self
+invariant_of-self c = record { part = rw c.clear.ensures none_begun }
 
 pub returns-then-is_some-clause-feeds : goal.returns-then-is_some-clause-feeds
 returns-then-is_some-clause-feeds c =
