@@ -1,5 +1,4 @@
 mod Loops
-mod Made
 pub mod Laws
 pub mod Newest
 pub mod Computing

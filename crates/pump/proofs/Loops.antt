@@ -1,21 +1,24 @@
 -- What a turn of each loop does: the search for the next seat, and the count of held frames. And a byte of a run.
 -- Assumes nothing.
 use Prim.Native.Nat.{ℕ, zero, suc, ◌+◌, ◌-◌, ◌*◌, ◌/◌, ◌%◌, ◌<◌, ◌≤◌}
-use mathlib.Core.Path.{◌≡◌, sym, ◌∙◌}
+use mathlib.Core.Path.{◌≡◌, refl, sym, ◌∙◌}
 use mathlib.Core.Bool.{true, false}
+use mathlib.Core.List.{List}
 use native.Mathlib.Omega.{arith}
 use native.Mathlib.Nat.{mod-lt, div-lt_iff_lt-mul}
-use lib.ListN.{get_or, drop}
-use lib.Seq.{get_or-take, get_or-drop}
+use lib.ListN.{get_or, set, replicate, drop, get_or-replicate}
+use lib.Seq.{get_or-take, get_or-drop, get_or-set_other, ext_get_or}
 use borrow.Author.Tests.{eqb-false, lt-ltb, eq-eqb, ne_eqb}
 use Rattle.std.specs.Prelude.{None, Some}
-use Rattle.logic.proofs.Cases.{by_test, if_true, if_false}
+use Rattle.logic.specs.Tabulate.{tabulate}
+use Rattle.logic.proofs.Cases.{by_test, case_lt, if_true, if_false}
+use Rattle.logic.proofs.Tabulated.{Filled, filled_none, filled_more, length-tabulate, get_or-tabulate}
 use Rattle.peer.specs.Seats.{seats, has}
 use Rattle.wire.specs.Wire.{redundancy}
 use Rattle.window.specs.Window.{is_held, frame_start, frame_of}
 use Rattle.window.specs.declared.Window.{Window}
 use Rattle.session.specs.declared.Head.{Head}
-use Rattle.pump.specs.Pump.{next_remote, span, carried, run_byte}
+use Rattle.pump.specs.Pump.{next_remote, span, carried, run_bytes, run_byte}
 
 -- ---- the next seat: this one, one after it, or none
 
@@ -111,3 +114,29 @@ module _ (w : Window) (seat first count width j : ℕ) (some : 1 ≤ width) (in_
       (if_true _ _ (lt-ltb j (count * width) in_run)
       ∙ get_or-take width (drop (frame_start seat (first + j / width)) w.ring) (j % width) 0 byte_lt
       ∙ get_or-drop (frame_start seat (first + j / width)) w.ring (j % width) 0)
+
+-- ---- a run that a loop fills from the front, and that is zero from there on
+
+pub record RunTo (f : ℕ → ℕ) (n : ℕ) (run : List ℕ) : Type 0 where
+  pub front : Filled 0 f run_bytes n run
+  pub rest : (k : ℕ) → n ≤ k → k < run_bytes → get_or run k 0 ≡ 0
+
+module _ {f : ℕ → ℕ} where
+  pub run_none : RunTo f 0 (replicate run_bytes 0)
+  run_none = record { front = filled_none refl; rest = λ k l m. get_or-replicate run_bytes k 0 0 m }
+
+  pub run_more : {n : ℕ} {run : List ℕ} {x : ℕ} → RunTo f n run → n < run_bytes → x ≡ f n
+      → RunTo f (n + 1) (set run n x)
+  run_more {n} {run} {x} r l e = record {
+    front = filled_more r.front l e;
+    rest = λ k l m. get_or-set_other run n k x 0 (λ q. omega arith) ∙ r.rest k (omega arith) m;
+  }
+
+  -- where nothing but zeros is left to fill
+  pub run_whole : {n : ℕ} {run : List ℕ} → RunTo f n run → ((k : ℕ) → n ≤ k → k < run_bytes → f k ≡ 0)
+      → run ≡ tabulate run_bytes f
+  run_whole {n} {run} r zeros =
+      ext_get_or 0 run (tabulate run_bytes f) (r.front.long ∙ sym (length-tabulate run_bytes f)) (λ k l.
+      let here : k < run_bytes = omega (arith, l, r.front.long) in
+      case_lt k n (λ m. r.front.at k m) (λ m. r.rest k m here ∙ sym (zeros k m here))
+      ∙ sym (get_or-tabulate run_bytes f 0 k here))

@@ -17,7 +17,6 @@ use logic::Numbered;
 use params::SessionParams;
 use peer::PeerSet;
 use session::{Emit, Head, Pass, Session};
-use std::array;
 use window::Window;
 use wire::{Body, ByeBody, DigestBody, HelloBody, InputsBody, Message};
 
@@ -120,7 +119,13 @@ fn run_from(window: &Window, seat: u8, first: u64, count: u8, width: u8) -> Run
     requires { (seat < seats) × (1 ≤ width) × (width ≤ max_width) × (first + count ≤ most) }
     ensures { result ≡ run_from window.now seat first count width }
 {
-    array::from_fn(|j| run_byte(window, seat, first, count, width, j))
+    // as many bytes as the frames have, which are fewer than the run's at most widths
+    let mut run = NO_RUN;
+    let end = (usize::from(count) * usize::from(width)).min(RUN);
+    for j in 0..end {
+        run[j] = run_byte(window, seat, first, count, width, j);
+    }
+    run
 }
 
 #[tactic(auto, using(crate::proofs::Loops::carried_next, params::proofs::Laws::sound), unfolding(crate::specs::Pump::run_of))]
