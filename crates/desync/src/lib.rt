@@ -12,6 +12,7 @@ ghost use Rattle.desync.specs.Json.{report_most, flag_text, digest_text, seat_di
 ghost use Rattle.desync.specs.Json.{seat_list, peer_text, peer_list, head_text, verdict_text};
 ghost use Rattle.desync.specs.Json.{own_text, lists_text, agreed_text, stats_text, report_text};
 ghost use Rattle.desync.specs.Asked.{unwritten, desync_report, Writes};
+ghost use Rattle.logic.specs.Numbered.{done_no};
 ghost use Rattle.desync.specs.Numbers.{report_error_no, write_error_no};
 ghost use Rattle.desync.specs.declared.ReportError.TheVariants as ReportError';
 ghost use Rattle.desync.specs.declared.WriteError.TheVariants as WriteError';
@@ -123,7 +124,7 @@ impl Numbered for WriteError {
 
 // A report is no refusal.
 impl Numbered for DesyncReport {
-    ghost number_of = { λ _. 0 };
+    ghost number_of = { done_no };
 
     fn number(self) -> u8 {
         0
@@ -417,12 +418,13 @@ impl DesyncReport {
         number(out, b",\"seed\":", self.seed);
     }
 
-    // The report's text, behind what stands in `out`. By value: only then the check knows that its numbers are u64 and
+    // The report's text, whatever the lent text was. By value: only then the check knows that its numbers are u64 and
     // bytes, which bounds the text.
     pub fn json(self, out: &mut Text)
-        ensures writes { out.new ≡ put out.old (report_text self) }
+        ensures writes { out.new ≡ report_text self }
         ensures within_report_most { length (report_text self) ≤ report_most }
     {
+        out.clear();
         self.head(out);
         self.verdict(out);
         self.own(out);

@@ -145,7 +145,6 @@ pub fn report_line(out: &mut Text, answer: Result<DesyncReport, ReportError>)
 {
     match answer {
         Ok(report) => {
-            out.clear();
             report.json(out);
             out.byte(b'\n');
         }

@@ -65,3 +65,7 @@ put_both xs ys h = sym (put-append [] xs ys) ∙ put_front (xs ++ ys) (rw length
 -- so a text that is cleared and then written is the line
 pub put_said : (line : List ℕ) {text : List ℕ} → length line ≤ text_limit → text ≡ put [] line → text ≡ line
 put_said line h e = e ∙ put_front line h
+
+-- two texts that a promise of one line permits are equal
+pub put_one : {line a b : List ℕ} → a ≡ line → b ≡ line → a ≡ b
+put_one p q = p ∙ sym q
