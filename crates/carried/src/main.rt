@@ -8,6 +8,10 @@
 mod answers;
 mod report;
 
+ghost use Rattle.std.specs.Prelude.{◌≤◌};
+ghost use Rattle.script.specs.Records.{longest};
+ghost use Rattle.carried.specs.Reading.{size_of};
+
 use params::SessionParams;
 use script::{Asked, Call};
 use session::Session;
@@ -87,7 +91,9 @@ fn answer(s: &mut Session, out: &mut Text, record: &[u8]) {
 // ---- reading and writing
 
 // The header first, which says how many bytes follow.
-fn read_record(mut from: Stdin, buf: &mut [u8; script::LONGEST]) -> Record<'_> {
+fn read_record(mut from: Stdin, buf: &mut [u8; script::LONGEST]) -> Record<'_>
+    ensures { size_of result ≤ longest }
+{
     let mut header = [0u8; script::HEADER];
     let got = from.read(&mut header).unwrap_or(0);
     if got == 0 {
