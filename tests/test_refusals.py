@@ -194,6 +194,26 @@ class Refusals(unittest.TestCase):
             owners = [refusals.owner(self.crate, "src/lib.rt", line) for line in range(1, 8)]
             self.assertEqual(owners, [None] * 3 + [f"{name}::of"] * 3 + [None], block)
 
+    def test_a_function_that_an_edit_puts_on_a_line(self):
+        edit = self.crate / "wrong.edit"
+        edit.write_text("file: src/lib.rt\nold: impl Set {\n"
+                        "new: impl Set { pub fn add(self) -> Set { Set } } struct Other; impl Other {\n")
+        made = refusals.made_by(self.crate, edit)
+        self.assertEqual(refusals.owner(self.crate, "src/lib.rt", 1, made), "Set::add")
+        self.assertEqual(refusals.owner(self.crate, "src/lib.rt", 3, made), "Other::add")
+        said = "note: src/lib.rt:1:1: it is not proved that it holds (`returns`)"
+        self.assertEqual(list(refusals.first_words(self.crate, said, made)), ["Set::add"])
+        self.assertEqual((self.crate / "src" / "lib.rt").read_text(), SOURCE)
+
+    def test_an_edit_is_made_whole_or_not_at_all(self):
+        edit, lib = self.crate / "wrong.edit", self.crate / "src" / "lib.rt"
+        edit.write_text("file: src/lib.rt\nold: return 8\nnew: return 9\nold: not there\nnew: x\n")
+        self.assertEqual(refusals.apply(self.crate, edit), "not there stands in src/lib.rt 0 times")
+        self.assertEqual(lib.read_text(), SOURCE)
+        edit.write_text("file: src/lib.rt\nold: return 8\nnew: return 9\nold: return 9\nnew: return 7\n")
+        self.assertIsNone(refusals.apply(self.crate, edit))
+        self.assertEqual(lib.read_text(), SOURCE.replace("return 8", "return 7"))
+
     def test_a_text_in_another_function_than_it_says(self):
         texts = ("Set::add", "        self\n"), ("take", "    n\n"), ("one", "{ 1 }"), ("Reader::rest", "b'}'")
         for where, old in texts:
